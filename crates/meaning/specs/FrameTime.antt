@@ -1,0 +1,28 @@
+-- The time of a frame (document 01, "Lines from the board").
+use mathlib.Core.List.{List, [], _∷_}
+use Prim.Native.Nat.{ℕ, _+_, _-_, _%_, _≤_, _<_}
+
+-- The board's counter has sixteen bits: it is the true time modulo 65,536.
+abbrev pub turn : ℕ
+turn = 65_536
+
+abbrev pub counterOf : ℕ → ℕ
+counterOf time = time % turn
+
+-- "time = last + ((counter - last) modulo 65,536)", last 0 before any. A turn is added so that the difference is not below 0.
+unfoldable pub frameTime : ℕ → ℕ → ℕ
+frameTime last counter = last + (counter + turn - last % turn) % turn
+
+-- The times of frames one after the other, from the last time and their counters.
+unfoldable pub frameTimes : ℕ → List ℕ → List ℕ
+frameTimes last [] = []
+frameTimes last (counter ∷ counters) = frameTime last counter ∷ frameTimes (frameTime last counter) counters
+
+-- "these never fall, the first is below 65,536 ms and no gap between accepted frames exceeds 65,535 ms".
+unfoldable pub Close : ℕ → List ℕ → Type 0
+Close last [] = Unit
+Close last (time ∷ times) = (last ≤ time) × (time - last ≤ 65_535) × Close time times
+
+unfoldable pub TrueTimes : List ℕ → Type 0
+TrueTimes [] = Unit
+TrueTimes (time ∷ times) = (time < 65_536) × Close time times
