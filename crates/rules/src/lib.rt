@@ -1,0 +1,3 @@
+// The rule table and the one list of refusals.
+
+pub mod refusal;

@@ -1,0 +1,60 @@
+// The one list of refusals (document 01, "Refusal numbers"). Every answer of every crate that refuses holds one of these, and only this
+// file takes them apart.
+
+ghost use mathlib.Core.Path.{_≡_};
+ghost use Rattle.rules.specs.Refusals.{numberOf, rowOf};
+
+pub enum Refusal {
+    // 1: the table's length is not a multiple of 5, or its rows are not 1 to 64.
+    Length,
+    // 2, with its row: kind over 6, x or y not lower, bit over 31, unused not 0.
+    Row(u32),
+    // 3, with its row: the row passes 2, but a or b is out of range.
+    Limits(u32),
+    // 4: the store is shorter than the need.
+    Store,
+    // 5: the time is below the last event's.
+    Earlier,
+    // 6: the time is over the limit.
+    Late,
+    // 7: the record is not sound.
+    Record,
+    // 8: the line is not as required.
+    Line,
+    // 9: the line's sum is wrong.
+    Sum,
+}
+
+// The number of a refusal.
+pub fn number(r: Refusal) -> u32
+    ensures { λ n. ⌜ n ≡ numberOf r ⌝ }
+{
+    match r {
+        Refusal::Length => 1,
+        Refusal::Row(_) => 2,
+        Refusal::Limits(_) => 3,
+        Refusal::Store => 4,
+        Refusal::Earlier => 5,
+        Refusal::Late => 6,
+        Refusal::Record => 7,
+        Refusal::Line => 8,
+        Refusal::Sum => 9,
+    }
+}
+
+// The row of a refusal, 0 where it has none.
+pub fn row(r: Refusal) -> u32
+    ensures { λ n. ⌜ n ≡ rowOf r ⌝ }
+{
+    match r {
+        Refusal::Length => 0,
+        Refusal::Row(row) => row,
+        Refusal::Limits(row) => row,
+        Refusal::Store => 0,
+        Refusal::Earlier => 0,
+        Refusal::Late => 0,
+        Refusal::Record => 0,
+        Refusal::Line => 0,
+        Refusal::Sum => 0,
+    }
+}
