@@ -9,7 +9,7 @@ pub record Event : Type 0 where
   pub mask : ℕ
 
 -- "bit x of the event's mask is set".
-pub BitSet : ℕ → ℕ → Type 0
+abbrev pub BitSet : ℕ → ℕ → Type 0
 BitSet x mask = mask / 2 ^ x % 2 ≡ 1
 
 -- The events so far, the newest first. Two may have the same time. `drop j h` is what was known j events ago.
