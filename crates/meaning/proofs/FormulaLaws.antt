@@ -29,41 +29,43 @@ module _ (x y : History → Type 0) (a : ℕ) (b : End) (e : Event) (h : History
   reached-later r = go (r .j) (r .known) (r .fed) (r .apart) (r .kept)
     where
       go : (j : ℕ)
-        → j < length (e ∷ h)
-        → y (drop j (e ∷ h))
-        → Within a b (lastTime (drop j (e ∷ h))) u
-        → ((k : ℕ) → k < j → x (drop k (e ∷ h)))
-        → (y (e ∷ h) × Within a b (e .time) u) ⊎ (x (e ∷ h) × Reached x y a b h u)
+          → j < length (e ∷ h)
+          → y (drop j (e ∷ h))
+          → Within a b (lastTime (drop j (e ∷ h))) u
+          → ((k : ℕ) → k < j → x (drop k (e ∷ h)))
+          → (y (e ∷ h) × Within a b (e .time) u) ⊎ (x (e ∷ h) × Reached x y a b h u)
       go zero known fed apart kept = inl (fed, apart)
       go (suc j) known fed apart kept =
-          inr
-          (kept zero (suc-le-suc zero-le), record
-            { j = j
-            ; known = le-of-suc-le-suc known
-            ; fed = fed
-            ; apart = apart
-            ; kept = λ k below. kept (suc k) (suc-le-suc below)
-            })
+          inr (
+            kept zero (suc-le-suc zero-le),
+            record {
+              j = j;
+              known = le-of-suc-le-suc known;
+              fed = fed;
+              apart = apart;
+              kept = λ k below. kept (suc k) (suc-le-suc below);
+            },
+          )
 
   pub reached-at-once : y (e ∷ h) → Within a b (e .time) u → Reached x y a b (e ∷ h) u
   reached-at-once fed apart =
-      record
-        { j = zero
-        ; known = suc-le-suc zero-le
-        ; fed = fed
-        ; apart = apart
-        ; kept = λ k below. absurd (not-suc-le-zero below)
-        }
+      record {
+        j = zero;
+        known = suc-le-suc zero-le;
+        fed = fed;
+        apart = apart;
+        kept = λ k below. absurd (not-suc-le-zero below);
+      }
 
   pub reached-before : x (e ∷ h) → Reached x y a b h u → Reached x y a b (e ∷ h) u
   reached-before now r =
-      record
-        { j = suc (r .j)
-        ; known = suc-le-suc (r .known)
-        ; fed = r .fed
-        ; apart = r .apart
-        ; kept = go
-        }
+      record {
+        j = suc (r .j);
+        known = suc-le-suc (r .known);
+        fed = r .fed;
+        apart = r .apart;
+        kept = go;
+      }
     where
       go : (k : ℕ) → k < suc (r .j) → x (drop k (e ∷ h))
       go zero below = now
@@ -86,8 +88,8 @@ tells-reached x y x? y? tx ty a b (e ∷ h) u =
     (⊎-elim (λ now. reached-at-once x y a b e h u (now .0) (now .1)) (λ before. reached-before x y a b e h u (before .0) (before .1)))
     (reached-later x y a b e h u)
     (tells-or
-      (tells-and (ty (e ∷ h)) (tells-within a b (e .time) u))
-      (tells-and (tx (e ∷ h)) (tells-reached x y x? y? tx ty a b h u)))
+    (tells-and (ty (e ∷ h)) (tells-within a b (e .time) u))
+    (tells-and (tx (e ∷ h)) (tells-reached x y x? y? tx ty a b h u)))
 
 -- The computed truth tells what the formula means, for every formula and history.
 pub holds-told : (φ : Formula) (h : History) → Tells (holds? φ h) (Holds φ h)
@@ -113,22 +115,22 @@ module _ (x : Formula) (a : ℕ) (b : End) (h : History) where
   -- Once x: some event in range has x.
   pub once-means : Holds (once x a b) h ↔ ((j : ℕ) × InRange j × Holds x (drop j h))
   unfolding Holds
-  once-means =
-      ( λ r. (r .j, (r .known, r .apart), r .fed)
-      , λ some. record { j = some .0; known = some .1 .0; fed = some .2; apart = some .1 .1; kept = λ _ _. tt }
-      )
+  once-means = (
+    λ r. (r .j, (r .known, r .apart), r .fed),
+    λ some. record { j = some .0; known = some .1 .0; fed = some .2; apart = some .1 .1; kept = λ _ _. tt },
+  )
 
   -- Always x: every event in range has x.
   pub always-means : Holds (always x a b) h ↔ ((j : ℕ) → InRange j → Holds x (drop j h))
   unfolding Holds
-  always-means =
-      ( λ never j near.
+  always-means = (
+    λ never j near.
         ⊎-elim
         (λ holds. holds)
         (λ fails. absurd (never (record { j = j; known = near .0; fed = fails; apart = near .1; kept = λ _ _. tt })))
-        (tells-decided (holds-told x (drop j h)))
-      , λ all r. r .fed (all (r .j) (r .known, r .apart))
-      )
+        (tells-decided (holds-told x (drop j h))),
+    λ all r. r .fed (all (r .j) (r .known, r .apart)),
+  )
 
   -- Always x is true also where no event is in range.
   pub always-of-none : ((j : ℕ) → ¬ InRange j) → Holds (always x a b) h

@@ -1,3 +1,9 @@
--- The laws of the definitions in specs/.
+-- The laws of the definitions in specs/, in the order in which they build on each other.
 pub mod Tells
 pub mod FormulaLaws
+pub mod NumberedLaws
+pub mod HistoryLaws
+pub mod SpansLaws
+pub mod SoundLaws
+pub mod RunsLaws
+pub mod FrameTimeLaws

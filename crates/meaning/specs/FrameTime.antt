@@ -21,8 +21,8 @@ frameTimes last (counter ∷ counters) = frameTime last counter ∷ frameTimes (
 -- "these never fall, the first is below 65,536 ms and no gap between accepted frames exceeds 65,535 ms".
 unfoldable pub Close : ℕ → List ℕ → Type 0
 Close last [] = Unit
-Close last (time ∷ times) = (last ≤ time) × (time - last ≤ 65_535) × Close time times
+Close last (time ∷ times) = (last ≤ time) × (time - last < turn) × Close time times
 
 unfoldable pub TrueTimes : List ℕ → Type 0
 TrueTimes [] = Unit
-TrueTimes (time ∷ times) = (time < 65_536) × Close time times
+TrueTimes (time ∷ times) = (time < turn) × Close time times
