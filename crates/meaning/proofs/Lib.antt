@@ -6,4 +6,6 @@ pub mod HistoryLaws
 pub mod SpansLaws
 pub mod SoundLaws
 pub mod RunsLaws
+pub mod FigureLaws
 pub mod FrameTimeLaws
+pub mod NumbersRight

@@ -4,7 +4,7 @@ use mathlib.Core.List.{List, [], _∷_}
 use mathlib.Core.Path.{_≡_}
 use Prim.Native.Nat.{ℕ}
 use Rattle.meaning.specs.Interval.{upTo, noEnd}
-use Rattle.meaning.specs.History.{Event, History}
+use Rattle.meaning.specs.History.{History}
 use Rattle.meaning.specs.Formula.{Formula, truth, bit, either, previous, since, once, Holds}
 use Rattle.meaning.specs.Spans.{_to_}
 use Rattle.meaning.specs.Runs.{Runs}
@@ -12,9 +12,10 @@ use Rattle.meaning.specs.Figure.{figure}
 use Rattle.meaning.specs.FrameTime.{frameTime}
 
 -- Every statement of the list is right.
-abbrev pub AllRight : List (Type 0) → Type 0
-AllRight [] = Unit
-AllRight (statement ∷ others) = statement × AllRight others
+infixr 20 _and_
+pub data AllRight : List (Type 0) → Type 1 where
+  all : AllRight []
+  _and_ : {statement : Type 0} {others : List (Type 0)} → statement → AllRight others → AllRight (statement ∷ others)
 
 -- The history h, then an event: at a time, with p alone, with q alone, with neither.
 abbrev pub then : ℕ → ℕ → History → History
