@@ -1,7 +1,7 @@
 -- The figure is enough for any sound list, and some history of one bit fills it, so that no smaller figure serves.
 use mathlib.Core.Bool.{false, true}
 use mathlib.Core.List.{List, [], _∷_, _++_, append-assoc}
-use mathlib.Core.Path.{_≡_, refl, _∙_, ap, subst}
+use mathlib.Core.Path.{_≡_, refl, ap}
 use Prim.Native.Nat.{ℕ, zero, suc, _+_, _-_, _*_, _/_, _≤_, _<_, max}
 use native.Mathlib.Nat.{zero-add, suc-mul, le-div-iff-mul-le, div-mul-le-self}
 use native.Mathlib.Numerals.{add-one}

@@ -2,18 +2,17 @@
 use mathlib.Core.Bool.{Bool}
 use mathlib.Core.List.{[], _∷_}
 use mathlib.Core.Logic.{_↔_, _⊎_, inl, inr, ⊎-elim}
-use Prim.Native.Nat.{ℕ, zero, suc, _+_, _<_, zero-le, suc-le-suc}
+use Prim.Native.Nat.{ℕ, zero, suc, _+_, _<_}
 use native.Mathlib.Omega.{arith}
-use native.Mathlib.Nat.{le-of-suc-le-suc, not-suc-le-zero}
 use lib.ListN.{length, drop}
 use Rattle.meaning.specs.Interval.{End, upTo, noEnd, _≤End_, _+End_, Within}
-use Rattle.meaning.specs.History.{Event, History, BitSet, lastTime, lastMask}
+use Rattle.meaning.specs.History.{Event, History, lastTime}
 use Rattle.meaning.specs.Formula.{Formula, truth, bit, negation, both, either, previous, since, once, always, Reached, Holds}
 use Rattle.meaning.specs.Computed.{notPast?, within?, reached?, holds?}
 use Rattle.meaning.proofs.Tells.{Tells, tells-leb, tells-ltb, tells-eqb, tells-not, tells-and, tells-or, tells-same, tells-decided}
 
 tells-notPast : (n : ℕ) (end : End) → Tells (notPast? n end) (n ≤End end)
-tells-notPast n (upTo m) = tells-leb n m
+tells-notPast n (upTo m) = tells-same (λ low. omega arith) (λ low. omega arith) (tells-leb n m)
 tells-notPast n noEnd = record { sound = λ _. tt; complete = λ _. tt }
 
 pub tells-within : (a : ℕ) (b : End) (s t : ℕ) → Tells (within? a b s t) (Within a b s t)
@@ -26,7 +25,7 @@ tells-within a b s t =
 -- u is reached after one event more: y is true at it and u is in range of it, or x is true at it and u was reached before.
 module _ (x y : History → Type 0) (a : ℕ) (b : End) (e : Event) (h : History) (u : ℕ) where
   pub reached-later : Reached x y a b (e ∷ h) u → (y (e ∷ h) × Within a b (e .time) u) ⊎ (x (e ∷ h) × Reached x y a b h u)
-  reached-later r = go (r .j) (r .known) (r .fed) (r .apart) (r .kept)
+  reached-later r = go (r .j) (r .known) (r .fed) (r .apart) (λ k below. r .kept k (omega arith))
     where
       go : (j : ℕ)
           → j < length (e ∷ h)
@@ -37,13 +36,13 @@ module _ (x y : History → Type 0) (a : ℕ) (b : End) (e : Event) (h : History
       go zero known fed apart kept = inl (fed, apart)
       go (suc j) known fed apart kept =
           inr (
-            kept zero (suc-le-suc zero-le),
+            kept zero (omega arith),
             record {
               j = j;
-              known = le-of-suc-le-suc known;
+              known = omega arith;
               fed = fed;
               apart = apart;
-              kept = λ k below. kept (suc k) (suc-le-suc below);
+              kept = λ k below. kept (suc k) (omega arith);
             },
           )
 
@@ -51,29 +50,29 @@ module _ (x y : History → Type 0) (a : ℕ) (b : End) (e : Event) (h : History
   reached-at-once fed apart =
       record {
         j = zero;
-        known = suc-le-suc zero-le;
+        known = omega arith;
         fed = fed;
         apart = apart;
-        kept = λ k below. absurd (not-suc-le-zero below);
+        kept = λ k below. absurd (omega arith);
       }
 
   pub reached-before : x (e ∷ h) → Reached x y a b h u → Reached x y a b (e ∷ h) u
   reached-before now r =
       record {
         j = suc (r .j);
-        known = suc-le-suc (r .known);
+        known = omega arith;
         fed = r .fed;
         apart = r .apart;
-        kept = go;
+        kept = λ k below. go k (omega arith);
       }
     where
       go : (k : ℕ) → k < suc (r .j) → x (drop k (e ∷ h))
       go zero below = now
-      go (suc k) below = r .kept k (le-of-suc-le-suc below)
+      go (suc k) below = r .kept k (omega arith)
 
 -- Before the first event nothing is reached.
 pub reached-never : (x y : History → Type 0) (a : ℕ) (b : End) (u : ℕ) → ¬ Reached x y a b [] u
-reached-never x y a b u r = not-suc-le-zero (r .known)
+reached-never x y a b u r = omega (arith, r .known)
 
 tells-reached : (x y : History → Type 0) (x? y? : History → Bool)
     → ((h : History) → Tells (x? h) (x h))

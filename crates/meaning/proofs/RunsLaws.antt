@@ -6,7 +6,7 @@ use mathlib.Core.Logic.{_↔_, inl, inr, ⊎-elim}
 use mathlib.Core.Path.{_≡_}
 use Prim.Native.Nat.{ℕ, _+_, _≤_}
 use native.Mathlib.Omega.{arith}
-use Rattle.meaning.specs.Interval.{End, upTo, noEnd, _≤End_, _+End_, Within}
+use Rattle.meaning.specs.Interval.{End, upTo, noEnd, _≤End_, _+End_}
 use Rattle.meaning.specs.History.{Event, History, lastTime}
 use Rattle.meaning.specs.Formula.{Formula, since, Reached, Holds}
 use Rattle.meaning.specs.Spans.{Span, In, Rising, reach, clip, join, update}

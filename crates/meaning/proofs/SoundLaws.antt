@@ -12,7 +12,7 @@ use Rattle.meaning.specs.Spans.{Span, _to_, In, Rising}
 use Rattle.meaning.specs.Runs.{Runs}
 use Rattle.meaning.specs.Sound.{SoundFrom, SoundEndless, SoundSpans, lengthOf}
 use Rattle.meaning.proofs.HistoryLaws.{NoLater, no-later-at}
-use Rattle.meaning.proofs.SpansLaws.{le-or-lt, in-least, first-in, end-trans, gap-out, in-rest, rising-from-first, Under}
+use Rattle.meaning.proofs.SpansLaws.{le-or-lt, in-least, end-trans, gap-out, in-rest, rising-from-first, Under}
 
 -- Where u comes from: a time s, not later than the newest event's, in range of u, with all that is in range of s.
 record Source (a : ℕ) (b : End) (newest : ℕ) (R : ℕ → Type 0) (u : ℕ) : Type 0 where

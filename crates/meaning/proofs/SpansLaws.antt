@@ -1,21 +1,29 @@
 -- The laws of spans as lists: their least member, clip, join, and that a rising list is known by its members.
-use mathlib.Core.Bool.{Bool, true, false, cond}
+use mathlib.Core.Bool.{Bool, true, false, not, cond}
 use mathlib.Core.List.{List, [], _∷_}
 use mathlib.Core.Logic.{_↔_, _⊎_, inl, inr, ⊎-elim}
-use mathlib.Core.Path.{_≡_, refl, sym, ap, ap₂, subst}
+use mathlib.Core.Path.{_≡_, refl, sym, subst}
 use Prim.Native.Nat.{ℕ, suc, _+_, _≤_, _<_, max}
 use native.Mathlib.Omega.{arith}
-use lib.Dec.{T, leb, ltb, leb→le, nleb→lt}
+use lib.Dec.{T, leb, leb→le, nleb→lt}
 use Rattle.meaning.specs.Interval.{End, upTo, noEnd, _≤End_}
-use Rattle.meaning.specs.Spans.{Span, _to_, In, Rising, clip, join}
+use Rattle.meaning.specs.Spans.{Span, _to_, In, Rising, clip, touches, join}
 
 -- A case split on a test, with what the test says in each case.
+by-test : (P : Bool → Type 0) (test : Bool) {A B : Type 0} → (T test → A) → (T (not test) → B) → (A → P true) → (B → P false) → P test
+by-test P true holds fails yes-case no-case = yes-case (holds tt)
+by-test P false holds fails yes-case no-case = no-case (fails tt)
+
 pub by-leb : (P : Bool → Type 0) (m n : ℕ) → (m ≤ n → P true) → (n < m → P false) → P (leb m n)
-by-leb P m n yes-case no-case = go (leb m n) (leb→le m n) (nleb→lt m n)
-  where
-    go : (b : Bool) → (T b → m ≤ n) → (T (mathlib.Core.Bool.not b) → n < m) → P b
-    go true holds fails = yes-case (holds tt)
-    go false holds fails = no-case (fails tt)
+by-leb P m n = by-test P (leb m n) (leb→le m n) (nleb→lt m n)
+
+-- Two spans touch or overlap, or a gap lies between them.
+by-touch : (P : Bool → Type 0) (first last next : ℕ) (end : End)
+    → (next ≤ last + 1 → P true)
+    → (last + 2 ≤ next → P false)
+    → P (touches (first to upTo last) (next to end))
+by-touch P first last next end =
+    by-test P (touches (first to upTo last) (next to end)) (λ near. omega (arith, leb→le)) (λ far. omega (arith, nleb→lt))
 
 -- One number is at most the other, or above it.
 pub le-or-lt : (m n : ℕ) → (m ≤ n) ⊎ (n < m)
@@ -93,12 +101,14 @@ pub join-in : (next : ℕ) (end : End) (S : List Span) (u : ℕ)
 unfolding In join Under
 join-in next end [] u under = (⊎-elim inr (λ none. absurd none), ⊎-elim (λ none. absurd none) inl)
 join-in next end ((first to upTo last) ∷ []) u under =
-    by-leb
+    by-touch
     (λ near.
     In u (cond near ((first to end) ∷ []) ((first to upTo last) ∷ (next to end) ∷ []))
     ↔ (In u ((first to upTo last) ∷ []) ⊎ ((next ≤ u) × (u ≤End end))))
+    first
+    last
     next
-    (last + 1)
+    end
     (λ near. (
       ⊎-elim
           (λ here. ⊎-elim (λ low. inl (inl (here .0, low))) (λ high. inr (omega arith, here .1)) (le-or-lt u last))
@@ -145,10 +155,12 @@ pub join-rising : (least next : ℕ) (end : End) (S : List Span)
 unfolding Rising join Under
 join-rising least next end [] low within under rises = rising-one least next end low within
 join-rising least next end ((first to upTo last) ∷ []) low within under rises =
-    by-leb
+    by-touch
     (λ near. Rising least (cond near ((first to end) ∷ []) ((first to upTo last) ∷ (next to end) ∷ [])))
+    first
+    last
     next
-    (last + 1)
+    end
     (λ near. rising-one least first end (rises .0) (end-trans first next end (under .0) within))
     (λ far. (rises .0, rises .1, rising-one (last + 2) next end (omega arith) within))
 join-rising least next end ((first to noEnd) ∷ []) low within under rises =
@@ -161,7 +173,7 @@ join-rising least next end ((first to upTo last) ∷ q ∷ S) low within under r
 join-rising least next end ((first to noEnd) ∷ q ∷ S) low within under rises = absurd (not-empty q S (rises .1))
 
 -- The first number of a rising list is a member; the number after its first span's last is none.
-pub first-in : (least first : ℕ) (end : End) (S : List Span) → Rising least ((first to end) ∷ S) → In first ((first to end) ∷ S)
+first-in : (least first : ℕ) (end : End) (S : List Span) → Rising least ((first to end) ∷ S) → In first ((first to end) ∷ S)
 unfolding In Rising
 first-in least first (upTo last) S rises = inl (omega arith)
 first-in least first noEnd S rises = inl (omega arith, tt)

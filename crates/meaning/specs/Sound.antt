@@ -2,7 +2,7 @@
 use mathlib.Core.List.{List, [], _∷_}
 use mathlib.Core.Path.{_≡_}
 use Prim.Native.Nat.{ℕ, _+_, _-_, _≤_, _<_}
-use Rattle.meaning.specs.Interval.{End, upTo, noEnd, _+End_}
+use Rattle.meaning.specs.Interval.{End, upTo, noEnd}
 use Rattle.meaning.specs.Spans.{Span, _to_}
 
 -- "first ≤ last; each first is at least t; each later first is at least the former last + 2; each last is at most t+b if b has an end;
