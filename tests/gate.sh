@@ -1,0 +1,55 @@
+#!/usr/bin/env bash
+# The gate refuses, with a message that says why: a machine without the kit, a crate that crates.txt does not list, a file out of layout.
+# And it warns about another kit. Each case ends before the gate comes to its tests.
+set -u
+cd "$(dirname "$0")/.." || exit 2
+work=$(mktemp -d) || exit 2
+trap 'rm -rf "$work"' EXIT
+failures=0
+
+# A copy of the repository's gate with one small crate.
+fresh() {
+    rm -rf "$work/repo"
+    mkdir -p "$work/repo/crates/small/src" "$work/repo/.ci"
+    cp .ci/run .ci/kit "$work/repo/.ci/"
+    printf 'small:\n' >"$work/repo/crates.txt"
+    printf '// Nothing yet.\n' >"$work/repo/crates/small/src/lib.rt"
+}
+
+# expect TEXT COMMAND..: the command fails and says TEXT.
+expect() {
+    text=$1
+    shift
+    said=$("$@" 2>&1)
+    status=$?
+    if [ "$status" -eq 0 ]; then
+        printf 'gate.sh: passed, but should say: %s\n' "$text" >&2
+        failures=$((failures + 1))
+    elif ! printf '%s' "$said" | grep -qF -- "$text"; then
+        printf 'gate.sh: should say: %s\nbut says:\n%s\n' "$text" "$said" >&2
+        failures=$((failures + 1))
+    fi
+}
+
+fresh
+mkdir "$work/bare"
+for tool in bash dirname; do ln -s "$(command -v "$tool")" "$work/bare/$tool"; done
+expect "the command 'rt' of the Rattle kit is not on the PATH" env PATH="$work/bare" bash "$work/repo/.ci/run"
+
+fresh
+mkdir -p "$work/repo/crates/forgotten/src"
+expect "crates/forgotten is not listed in crates.txt" bash "$work/repo/.ci/run"
+
+fresh
+printf 'fn  crooked( ) {}\n' >"$work/repo/crates/small/src/lib.rt"
+expect "not in the layout of 'rt fmt'" bash "$work/repo/.ci/run"
+
+fresh
+printf 'another kit\n' >"$work/repo/.ci/kit"
+mkdir "$work/repo/tests"
+printf 'exit 1\n' >"$work/repo/tests/fails.sh"
+expect "warning: this is not the kit that the repository was proved with" bash "$work/repo/.ci/run"
+expect "tests/fails.sh failed" bash "$work/repo/.ci/run"
+
+[ "$failures" -eq 0 ] && printf 'gate.sh: 5 refusals as they should be\n'
+exit "$failures"
