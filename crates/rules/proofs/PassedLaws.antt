@@ -59,14 +59,14 @@ pub record Passed (table : List ℕ) (rows need : ℕ) : Type 0 where
 pub in-range : (a b : ℕ) → limitsPass a b ≡ true → InRange a b
 unfolding limitsPass
 in-range a b h =
-    record
-    { least = leb-true _ _ (and-left (leb a longest) (eqb b noEndNumber || (leb a b && leb b longest)) h)
-    ; most =
-        ⊎-map
-        (eqb-true _ _)
-        (λ both. (leb-true _ _ (and-left (leb a b) (leb b longest) both), leb-true _ _ (and-right (leb a b) (leb b longest) both)))
-        (or-cases (eqb b noEndNumber) (leb a b && leb b longest)
-        (and-right (leb a longest) (eqb b noEndNumber || (leb a b && leb b longest)) h))
+    record {
+      least = leb-true _ _ (and-left (leb a longest) (eqb b noEndNumber || (leb a b && leb b longest)) h);
+      most =
+          ⊎-map
+          (eqb-true _ _)
+          (λ both. (leb-true _ _ (and-left (leb a b) (leb b longest) both), leb-true _ _ (and-right (leb a b) (leb b longest) both)))
+          (or-cases (eqb b noEndNumber) (leb a b && leb b longest)
+          (and-right (leb a longest) (eqb b noEndNumber || (leb a b && leb b longest)) h));
     }
 
 fits-told : (r : ℕ) (usage : Use) (number : ℕ) → fits r usage number ≡ true → Fits r usage number
@@ -96,13 +96,13 @@ good-row r row h =
     let all : ((((known (row .kind)) && (((x && y) && a) && b))) ≡ true) = row-tests r row h .0 in
     let numbers : ((((x && y) && a) && b) ≡ true) = and-right (known (row .kind)) (((x && y) && a) && b) all in
     let first : (((x && y) && a) ≡ true) = and-left ((x && y) && a) b numbers in
-    record
-    { known = ltb-true _ _ (and-left (known (row .kind)) (((x && y) && a) && b) all)
-    ; x = fits-told r (k .x) (row .x) (and-left x y (and-left (x && y) a first))
-    ; y = fits-told r (k .y) (row .y) (and-right x y (and-left (x && y) a first))
-    ; a = fits-told r (k .a) (row .a) (and-right (x && y) a first)
-    ; b = fits-told r (k .b) (row .b) (and-right ((x && y) && a) b numbers)
-    ; limits = in-range (row .a) (row .b) (row-tests r row h .1)
+    record {
+      known = ltb-true _ _ (and-left (known (row .kind)) (((x && y) && a) && b) all);
+      x = fits-told r (k .x) (row .x) (and-left x y (and-left (x && y) a first));
+      y = fits-told r (k .y) (row .y) (and-right x y (and-left (x && y) a first));
+      a = fits-told r (k .a) (row .a) (and-right (x && y) a first);
+      b = fits-told r (k .b) (row .b) (and-right ((x && y) && a) b numbers);
+      limits = in-range (row .a) (row .b) (row-tests r row h .1);
     }
 
 -- No fault among some rows is none before the last of them, and none at it.

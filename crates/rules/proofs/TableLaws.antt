@@ -18,6 +18,8 @@ use Rattle.rules.specs.Rows.{rowsOf, numberAt, numbersAt}
 use Rattle.rules.specs.Stretches.{width, offset, needOf}
 use Rattle.rules.specs.Refusals.{Refused, refused}
 use Rattle.rules.specs.Table.{lengthPasses, rowPasses, limitsPass, faultOf, firstFault, firstOf, Said, passed, refusedBy, saidOf, checkOf}
+use Rattle.rules.specs.declared.kinds.Use.{Use}
+use Rattle.rules.specs.declared.kinds.Line.{Line}
 use Rattle.rules.specs.declared.numbers.Numbers.{Numbers}
 use Rattle.rules.specs.declared.refusal.Refusal.the-variants.{Length, Row, Limits}
 use Rattle.rules.proofs.Truths.{and-false, and-left, and-right, or-cases}
@@ -26,19 +28,29 @@ use Rattle.rules.proofs.StretchesLaws.{spans-most}
 
 -- The number at a field of a row fits its use.
 abbrev pub fieldFits : List ℕ → ℕ → ℕ → Bool
-fieldFits table r field = fits r (useOf (lineOf (kindAt (numberAt table r 0))) field) (numberAt table r field)
+fieldFits table r field = fits r (useOf (lineOf (kindAt (numbersAt table r .kind))) field) (numberAt table r field)
+
+-- The same, from what was read and looked up on the way to it.
+pub field-told :
+    (table : List ℕ) (r field : ℕ) {found : Numbers} {line : Line} {usage : Use} {number : ℕ}
+    → found ≡ numbersAt table r
+    → line ≡ lineOf (kindAt (found .kind))
+    → usage ≡ useOf line field
+    → number ≡ numberAt table r field
+    → fits r usage number ≡ fieldFits table r field
+field-told table r field row-read line-read use-read number-read = rw (use-read, line-read, row-read, number-read)
 
 module _ (table : List ℕ) (r : ℕ) where
   -- 2 by fields: a row passes where its kind is known and each field fits, and not otherwise.
   pub row-passes :
-      known (numberAt table r 0) ≡ true
+      known (numbersAt table r .kind) ≡ true
       → ((field : ℕ) → 1 ≤ field → field < rowNumbers → fieldFits table r field ≡ true)
       → rowPasses r (numbersAt table r) ≡ true
   unfolding rowPasses numbersAt useOf
   row-passes k all =
       rw (k, all 1 (omega arith) (omega arith), all 2 (omega arith) (omega arith), all 3 (omega arith) (omega arith), all 4 (omega arith) (omega arith))
 
-  pub row-unknown : known (numberAt table r 0) ≡ false → rowPasses r (numbersAt table r) ≡ false
+  pub row-unknown : known (numbersAt table r .kind) ≡ false → rowPasses r (numbersAt table r) ≡ false
   unfolding rowPasses numbersAt
   row-unknown k = rw k
 
@@ -91,9 +103,10 @@ module _ (table : List ℕ) (need r : ℕ) (reached : Reached table need r) wher
   pub refused-at : (fault : Refused) → r < rowsOf table → faultOf r (numbersAt table r) ≡ some fault → refusedBy fault ≡ checkOf table
   unfolding checkOf
   refused-at fault more h =
-      rw
-      (reached .size
-      , first-kept table (suc r) (rowsOf table) fault (first-at table r (some fault) (reached .good) h) more)
+      rw (
+        reached .size,
+        first-kept table (suc r) (rowsOf table) fault (first-at table r (some fault) (reached .good) h) more,
+      )
 
   -- There is no next row: the table passes.
   pub passed-at : rowsOf table ≤ r → passed (rowsOf table) need ≡ checkOf table
@@ -103,17 +116,22 @@ module _ (table : List ℕ) (need r : ℕ) (reached : Reached table need r) wher
       rw (reached .size, ← all, reached .good, reached .so-far)
 
   -- The next row passes.
-  pub reached-more : r < rowsOf table → faultOf r (numbersAt table r) ≡ none → Reached table (need + width (numbersAt table r)) (r + 1)
+  pub reached-more :
+      (words : ℕ)
+      → r < rowsOf table
+      → faultOf r (numbersAt table r) ≡ none
+      → words ≡ width (numbersAt table r)
+      → Reached table (need + words) (r + 1)
   unfolding offset
-  reached-more more h =
-      record
-      { size = reached .size
-      ; within = omega arith
-      ; so-far = rw (add-one, reached .so-far)
-      ; good = rw (add-one, first-at table r none (reached .good) h)
+  reached-more words more h e =
+      record {
+        size = reached .size;
+        within = omega arith;
+        so-far = rw (add-one, reached .so-far, e);
+        good = rw (add-one, first-at table r none (reached .good) h);
       }
 
--- 1: the three ways in which the length is wrong.
+-- 1: the length is wrong.
 pub refused-length : (table : List ℕ) → lengthPasses table ≡ false → refusedBy (refused Length) ≡ checkOf table
 unfolding checkOf
 refused-length table h = rw h

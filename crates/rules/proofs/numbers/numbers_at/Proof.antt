@@ -42,13 +42,14 @@ number-at-requires-5 c κs = search needs
 returns-2 : tie.Need-returns-2
 unfolding numbersAt
 returns-2 c =
-    rw
-    (c .before .before .before .before .number-at .ensures
-    , c .before .before .before .number-at2 .ensures
-    , c .before .before .number-at3 .ensures
-    , c .before .number-at4 .ensures
-    , c .number-at5 .ensures
-    , add-zero)
+    rw (
+      c .before .before .before .before .number-at .ensures,
+      c .before .before .before .number-at2 .ensures,
+      c .before .before .number-at3 .ensures,
+      c .before .number-at4 .ensures,
+      c .number-at5 .ensures,
+      add-zero,
+    )
 
 pub numbers-at-spec : {M : Type 1} → statement M
 numbers-at-spec =
