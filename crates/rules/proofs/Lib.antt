@@ -1,0 +1,8 @@
+-- Laws of the rule table, for its functions and for callers. The functions' own proofs stand in folders of their names.
+pub mod Truths
+pub mod KindsLaws
+pub mod RowsLaws
+pub mod FigureLaws
+pub mod StretchesLaws
+pub mod TableLaws
+pub mod PassedLaws

@@ -1,0 +1,28 @@
+-- Laws of the stretches.
+use mathlib.Core.Bool.{Bool, true, false, cond}
+use mathlib.Core.Path.{_≡_, refl}
+use Prim.Native.Nat.{ℕ, _+_, _/_, _≤_}
+use native.Mathlib.Omega.{arith}
+use Rattle.meaning.specs.Interval.{endOf}
+use Rattle.meaning.specs.Figure.{figure}
+use Rattle.rules.specs.Kinds.{Rule, plain, stretch, hasStretch}
+use Rattle.rules.specs.Rows.{ruleOf}
+use Rattle.rules.specs.Stretches.{spansSaid, spansOf}
+use Rattle.rules.specs.declared.numbers.Numbers.{Numbers}
+use Rattle.rules.proofs.FigureLaws.{figure-most}
+
+-- The spans of a row by the column of the table that says whether it owns a stretch.
+pub spans-by-column : (rule : Rule) (row : Numbers) → spansSaid rule row ≡ cond (hasStretch rule) (figure (row .a) (endOf (row .b))) 0
+spans-by-column (plain says) row = refl
+spans-by-column (stretch keep feed) row = refl
+
+-- At most the figure, whatever the row says; so no more than half of b and one.
+said-most : (rule : Rule) (row : Numbers) → spansSaid rule row ≤ figure (row .a) (endOf (row .b))
+said-most (plain says) row = omega arith
+said-most (stretch keep feed) row = omega arith
+
+pub spans-most : (row : Numbers) → spansOf row ≤ figure (row .a) (endOf (row .b))
+spans-most row = said-most (ruleOf row) row
+
+pub spans-below : (row : Numbers) → spansOf row ≤ row .b / 2 + 1
+spans-below row = omega (arith, spans-most row, figure-most (row .a) (row .b))

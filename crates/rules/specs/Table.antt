@@ -1,0 +1,67 @@
+-- The check of a rule table (document 01, "Refusal numbers", 1 to 3).
+use mathlib.Core.Bool.{Bool, cond, _&&_, _||_}
+use mathlib.Core.List.{List}
+use mathlib.Core.Option.{Option, none, some}
+use Prim.Native.Nat.{ℕ, zero, suc, _%_}
+use lib.Dec.{eqb, leb}
+use lib.ListN.{length}
+use Rattle.meaning.specs.Interval.{noEndNumber}
+use Rattle.rules.specs.Limits.{rowNumbers, rowLimit, longest}
+use Rattle.rules.specs.Kinds.{Kind, known, kindAt, fits}
+use Rattle.rules.specs.Rows.{rowsOf, numbersAt}
+use Rattle.rules.specs.Stretches.{needOf}
+use Rattle.rules.specs.Refusals.{Refused, refused}
+use Rattle.rules.specs.declared.numbers.Numbers.{Numbers}
+use Rattle.rules.specs.declared.refusal.Refusal.the-variants.{Length, Row, Limits}
+use Rattle.rules.specs.declared.table.Checked as Answer
+
+-- 1: "table length not a multiple of 5, or rows not 1 to 64".
+unfoldable pub lengthPasses : List ℕ → Bool
+lengthPasses table = eqb (length table % rowNumbers) 0 && leb 1 (rowsOf table) && leb (rowsOf table) rowLimit
+
+-- 2: "row: kind over 6, x or y not lower, bit over 31, unused not 0".
+abbrev pub numbersFit : ℕ → Kind → Numbers → Bool
+numbersFit r k row = fits r (k .x) (row .x) && fits r (k .y) (row .y) && fits r (k .a) (row .a) && fits r (k .b) (row .b)
+
+unfoldable pub rowPasses : ℕ → Numbers → Bool
+rowPasses r row = known (row .kind) && numbersFit r (kindAt (row .kind)) row
+
+-- 3: "row passes 2, but a or b outside the range above": "a is 0 to 86,400,000; b is a to 86,400,000, or 4,294,967,295 for 'no end'".
+-- Where a and b are unused they are 0 and in range.
+unfoldable pub limitsPass : ℕ → ℕ → Bool
+limitsPass a b = leb a longest && (eqb b noEndNumber || (leb a b && leb b longest))
+
+unfoldable pub faultOf : ℕ → Numbers → Option Refused
+faultOf r row =
+    cond (rowPasses r row)
+    (cond (limitsPass (row .a) (row .b)) none (some (refused (Limits r))))
+    (some (refused (Row r)))
+
+-- "Among rows the first bad row decides and nothing after it is looked at."
+abbrev pub firstOf : Option Refused → Option Refused → Option Refused
+firstOf none next = next
+firstOf (some fault) next = some fault
+
+unfoldable pub firstFault : List ℕ → ℕ → Option Refused
+firstFault table zero = none
+firstFault table (suc r) = firstOf (firstFault table r) (faultOf r (numbersAt table r))
+
+-- "The table check gives the row count and need", or a refusal with the paper's number and values.
+pub data Said : Type 0 where
+  passed : (rows need : ℕ) → Said
+  refusedBy : Refused → Said
+
+abbrev pub saidOf : Option Refused → (rows need : ℕ) → Said
+saidOf none rows need = passed rows need
+saidOf (some fault) rows need = refusedBy fault
+
+unfoldable pub checkOf : List ℕ → Said
+checkOf table =
+    cond (lengthPasses table)
+    (saidOf (firstFault table (rowsOf table)) (rowsOf table) (needOf table))
+    (refusedBy (refused Length))
+
+-- What an answer of the check says.
+abbrev pub said : Answer.Checked → Said
+said (Answer.the-variants.Passed rows need) = passed rows need
+said (Answer.the-variants.Refused refusal) = refusedBy (refused refusal)

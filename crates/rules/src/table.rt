@@ -1,0 +1,80 @@
+// The check of a rule table (document 01, "The rule table" and "Refusal numbers"), which start and every event begin with.
+
+ghost use mathlib.Core.Path.{_≡_};
+ghost use Rattle.rules.specs.Table.{checkOf, said, limitsPass};
+use crate::kinds;
+use crate::limits::LONGEST;
+use crate::limits::NO_END;
+use crate::limits::ROW_LIMIT;
+use crate::limits::ROW_NUMBERS;
+use crate::numbers;
+use crate::numbers::Numbers;
+use crate::refusal::Refusal;
+use crate::stretch;
+
+pub enum Checked {
+    // The row count and the need, in words.
+    Passed { rows: u32, need: u64 },
+    // 1, 2 or 3.
+    Refused(Refusal),
+}
+
+// The row count and the need of a table, or the refusal of its first bad row; nothing after that row is looked at.
+pub fn check(table: &[u32]) -> Checked
+    ensures { λ r. ⌜ said r ≡ checkOf (now (table .entry)) ⌝ }
+{
+    if table.len() % ROW_NUMBERS != 0 {
+        return Checked::Refused(Refusal::Length);
+    }
+    let rows = table.len() / ROW_NUMBERS;
+    if rows < 1 {
+        return Checked::Refused(Refusal::Length);
+    }
+    if ROW_LIMIT < rows {
+        return Checked::Refused(Refusal::Length);
+    }
+    let mut need: u64 = 0;
+    let mut row: usize = 0;
+    'rows: loop {
+        if rows <= row {
+            break 'rows Checked::Passed {
+                rows: rows as u32,
+                need: need,
+            };
+        }
+        let found = numbers::numbers_at(table, row);
+        if !kinds::is_known(found.kind) {
+            break 'rows Checked::Refused(Refusal::Row(row as u32));
+        }
+        let line = kinds::line_of(found.kind);
+        let mut field: usize = 1;
+        'fields: while field < ROW_NUMBERS {
+            let number = numbers::number_at(table, row * ROW_NUMBERS + field);
+            if !kinds::may_be(row as u32, kinds::use_of(line, field), number) {
+                break 'rows Checked::Refused(Refusal::Row(row as u32));
+            }
+            field += 1;
+        }
+        if !limits_pass(found.a, found.b) {
+            break 'rows Checked::Refused(Refusal::Limits(row as u32));
+        }
+        need += stretch::words(found);
+        row += 1;
+    }
+}
+
+// Whether a and b are in range: a 0 to 86,400,000, b from a to 86,400,000 or no end.
+fn limits_pass(a: u32, b: u32) -> bool
+    ensures { λ r. ⌜ r ≡ limitsPass a b ⌝ }
+{
+    if LONGEST < a {
+        return false;
+    }
+    if b == NO_END {
+        return true;
+    }
+    if b < a {
+        return false;
+    }
+    b <= LONGEST
+}
