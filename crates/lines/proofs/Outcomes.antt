@@ -1,0 +1,102 @@
+-- Any two outcomes that the contract of a public function allows are the same. What an answer says can be undone, so equal sayings come
+-- from equal answers.
+use mathlib.Core.Bool.{Bool, cond}
+use mathlib.Core.List.{List}
+use mathlib.Core.Path.{_≡_, refl, sym, ap, _∙_}
+use Prim.Native.Nat.{ℕ}
+use lib.Dec.{eqb}
+use lib.ListN.{getD}
+use denote.Ref.{now}
+use Rattle.rules.specs.declared.refusal.Refusal.{Refusal}
+use Rattle.rules.specs.declared.refusal.Refusal.the-variants.{Length, Row, Limits, Store, Earlier, Late, Record, Line, Sum}
+use Rattle.rules.specs.Refusals.{Refused, refused, firstOf}
+use Rattle.lines.specs.declared.frame.FrameRead.{FrameRead}
+use Rattle.lines.specs.declared.frame.FrameFound.{FrameFound}
+use Rattle.lines.specs.declared.frame.FrameFound.the-variants as frame
+use Rattle.lines.specs.declared.rule.RuleRead.{RuleRead}
+use Rattle.lines.specs.declared.rule.RuleFound.{RuleFound}
+use Rattle.lines.specs.declared.rule.RuleFound.the-variants as rule
+use Rattle.lines.specs.Digits.{digitsAt, Written}
+use Rattle.lines.specs.Read.{Said, end, numbers, refusal, Read}
+use Rattle.lines.specs.Frame.{readFrame, frameFound, frameSaid}
+use Rattle.lines.specs.declared.reader.Reader.{Reader}
+use Rattle.lines.specs.Reader.{NextFrame}
+use Rattle.lines.specs.Rule.{readRule, ruleFound, ruleSaid}
+
+module _ {A B : Type 0} (said : A → B) (back : B → A) (undone : (a : A) → back (said a) ≡ a) where
+  same : {b : B} (a a′ : A) → said a ≡ b → said a′ ≡ b → a ≡ a′
+  same a a′ h h′ = sym (undone a) ∙ ap back (h ∙ sym h′) ∙ undone a′
+
+-- The refusal that has these numbers.
+abbrev refusalOf : Refused → Refusal
+refusalOf r =
+    cond (eqb (r .number) 1) Length
+    (cond (eqb (r .number) 2) (Row (firstOf (r .values)))
+    (cond (eqb (r .number) 3) (Limits (firstOf (r .values)))
+    (cond (eqb (r .number) 4) Store
+    (cond (eqb (r .number) 5) Earlier
+    (cond (eqb (r .number) 6) Late
+    (cond (eqb (r .number) 7) Record
+    (cond (eqb (r .number) 8) Line Sum)))))))
+
+refusal-undone : (r : Refusal) → refusalOf (refused r) ≡ r
+refusal-undone Length = refl
+refusal-undone (Row row) = refl
+refusal-undone (Limits row) = refl
+refusal-undone Store = refl
+refusal-undone Earlier = refl
+refusal-undone Late = refl
+refusal-undone Record = refl
+refusal-undone Line = refl
+refusal-undone Sum = refl
+
+abbrev frameOf : Said → FrameFound
+frameOf end = frame.End
+frameOf (numbers given) = frame.Frame (getD given 0 0) (getD given 1 0)
+frameOf (refusal r) = frame.Refused (refusalOf r)
+
+frame-undone : (f : FrameFound) → frameOf (frameFound f) ≡ f
+frame-undone frame.End = refl
+frame-undone (frame.Frame counter mask) = refl
+frame-undone (frame.Refused r) = ap frame.Refused (refusal-undone r)
+
+abbrev ruleOf : Said → RuleFound
+ruleOf end = rule.End
+ruleOf (numbers given) = rule.Rule (getD given 0 0) (getD given 1 0) (getD given 2 0) (getD given 3 0) (getD given 4 0)
+ruleOf (refusal r) = rule.Refused (refusalOf r)
+
+rule-undone : (f : RuleFound) → ruleOf (ruleFound f) ≡ f
+rule-undone rule.End = refl
+rule-undone (rule.Rule kind x y a b) = refl
+rule-undone (rule.Refused r) = ap rule.Refused (refusal-undone r)
+
+-- `lines::frame::read_frame`, and `lines::reader::frame_at`, which promises the same.
+pub one-frame : (text : List ℕ) (place : ℕ) (r r′ : FrameRead) → frameSaid r ≡ readFrame text place → frameSaid r′ ≡ readFrame text place → r ≡ r′
+one-frame text place =
+    same frameSaid (λ (s : Read). record { found = frameOf (s .said); next = s .next })
+    (λ (r : FrameRead). ap (λ (f : FrameFound). record { found = f; next = r .next }) (frame-undone (r .found)))
+
+-- `lines::reader::Reader::next_frame`: what is found, and the reader.
+pub one-next : (before : Reader) (found found′ : FrameFound) (after after′ : Reader)
+    → NextFrame before found after → NextFrame before found′ after′ → (found ≡ found′) × (after ≡ after′)
+one-next before found found′ after after′ h h′ =
+    let read : FrameRead = record { found = found; next = after .place } in
+    let read′ : FrameRead = record { found = found′; next = after′ .place } in
+    let same-read : read ≡ read′ = one-frame (now (before .text)) (before .place) read read′ (h .read) (h′ .read) in
+    let same-text : after .text ≡ after′ .text = h .text ∙ sym (h′ .text) in
+    (ap (λ (r : FrameRead). r .found) same-read, λ i. record { text = same-text i; place = same-read i .next })
+
+-- `lines::rule::read_rule`.
+pub one-rule : (text : List ℕ) (place : ℕ) (r r′ : RuleRead) → ruleSaid r ≡ readRule text place → ruleSaid r′ ≡ readRule text place → r ≡ r′
+one-rule text place =
+    same ruleSaid (λ (s : Read). record { found = ruleOf (s .said); next = s .next })
+    (λ (r : RuleRead). ap (λ (f : RuleFound). record { found = f; next = r .next }) (rule-undone (r .found)))
+
+-- `lines::digits::digits_at`.
+pub one-count : (text : List ℕ) (place n r r′ : ℕ) → r ≡ digitsAt text place n → r′ ≡ digitsAt text place n → r ≡ r′
+one-count text place n r r′ h h′ = h ∙ sym h′
+
+-- `lines::digits::write_digits`: the answer, and every byte of what was lent.
+pub one-writing : (out : List ℕ) (place n value : ℕ) (done done′ : Bool) (after after′ : List ℕ)
+    → Written out place n value done after → Written out place n value done′ after′ → (done ≡ done′) × (after ≡ after′)
+one-writing out place n value done done′ after after′ h h′ = (h .said ∙ sym (h′ .said), h .bytes ∙ sym (h′ .bytes))

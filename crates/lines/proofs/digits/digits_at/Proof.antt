@@ -1,0 +1,79 @@
+-- `lines::digits::digits_at` meets its contract. The loop: the count of the whole is what is counted, and the count of the rest.
+-- The measure is what is left of n. Assumes nothing.
+use mathlib.Core.Path.{_≡_, sym, ap, _∙_}
+use Prim.Native.Nat.{_+_, _-_, _≤_}
+use native.Mathlib.Nat.{add-zero, zero-add, sub-zero}
+use native.Mathlib.Omega.{arith}
+use borrow.Author.Needs.{needs}
+use Rattle.lines.specs.Digits.{byteAt, isDigit, digitsAt}
+use Rattle.lines.proofs.DigitLaws.{count-digit, count-ends}
+use Rattle.lines.proofs.digits.digits_at.Statement.{statement}
+use Rattle.lines.proofs.digits.digits_at.Tie as tie
+
+abbrev Inv-loop : tie.InvT-loop
+Inv-loop text place n count₀ count =
+    (count ≤ n) × (digitsAt text place n ≡ count + digitsAt text (place + count) (n - count))
+
+abbrev μ-loop : tie.MeasureT-loop
+μ-loop text place n count₀ count = n - count
+
+-- src/digits.rt:12:5
+loop-holds : tie.Need-loop-holds Inv-loop μ-loop
+loop-holds c = (omega arith, simp (zero-add, add-zero, sub-zero))
+
+-- src/digits.rt:13:22
+byte-at-requires : tie.Need-byte-at-requires Inv-loop μ-loop
+byte-at-requires c κs = search needs
+
+-- src/digits.rt:13:13
+is-digit-requires : tie.Need-is-digit-requires Inv-loop μ-loop
+is-digit-requires c κs = search needs
+
+-- What was judged is the byte at the count.
+judged : (c : tie.After-is-digit Inv-loop μ-loop)
+    → c .is-digit .result
+    ≡ isDigit (byteAt (c .before .before .before .before .before .args .text .now) (c .before .before .before .before .before .args .place + c .before .before .before .loop .count))
+judged c = c .is-digit .ensures ∙ ap isDigit (c .before .byte-at .ensures)
+
+returns : tie.Need-returns Inv-loop μ-loop
+returns c =
+    let at = c .before .before .before .before in
+    sym (at .loop .inv .1 ∙ count-ends (at .before .before .args .text .now) (at .before .before .args .place) (at .loop .count) (at .before .before .args .n) (c .before .before .before .loop-test .taken) (sym (judged (c .before)) ∙ c .if1 .left))
+
+-- src/digits.rt:16:9
+add-count : tie.Need-add-count Inv-loop μ-loop
+add-count c = omega arith
+
+-- src/digits.rt:12:5
+loop-less : tie.Need-loop-less Inv-loop μ-loop
+loop-less c = omega arith
+
+-- src/digits.rt:12:5
+loop-again : tie.Need-loop-again Inv-loop μ-loop
+loop-again c =
+    let at = c .before .before .before .before in
+    (omega arith, at .loop .inv .1 ∙ count-digit (at .before .before .args .text .now) (at .before .before .args .place) (at .loop .count) (at .before .before .args .n) (c .before .before .before .loop-test .taken) (sym (judged (c .before)) ∙ c .if1 .taken))
+
+-- src/digits.rt:8:1
+returns-2 : tie.Need-returns-2 Inv-loop μ-loop
+unfolding digitsAt
+returns-2 c =
+    let all : c .before .before .before .args .n - c .before .loop .count ≡ 0 = omega arith in
+    let sum : digitsAt (c .before .before .before .args .text .now) (c .before .before .before .args .place) (c .before .before .before .args .n) ≡ c .before .loop .count + 0 =
+    c .before .loop .inv .1 ∙ rw all in
+    omega arith
+
+pub digits-at-spec : {M : Type 1} → statement M
+digits-at-spec =
+    tie.close
+    (tie.spec
+    Inv-loop
+    μ-loop
+    loop-holds
+    byte-at-requires
+    is-digit-requires
+    add-count
+    loop-less
+    loop-again
+    returns
+    returns-2)

@@ -1,0 +1,23 @@
+-- A frame read at a place (document 01, "Lines from the board").
+use mathlib.Core.List.{List, [], _∷_}
+use Prim.Native.Nat.{ℕ}
+use Rattle.rules.specs.Refusals.{refused}
+use Rattle.lines.specs.declared.frame.FrameRead.{FrameRead}
+use Rattle.lines.specs.declared.frame.FrameFound.{FrameFound}
+use Rattle.lines.specs.declared.frame.FrameFound.the-variants.{End, Frame, Refused}
+use Rattle.lines.specs.Read.{Said, end, numbers, refusal, Read, readLine}
+
+-- "counter (4 digits), mask (8)".
+abbrev pub frameWidths : List ℕ
+frameWidths = 2 ∷ 4 ∷ []
+
+abbrev pub readFrame : List ℕ → ℕ → Read
+readFrame = readLine frameWidths
+
+abbrev pub frameFound : FrameFound → Said
+frameFound End = end
+frameFound (Frame counter mask) = numbers (counter ∷ mask ∷ [])
+frameFound (Refused r) = refusal (refused r)
+
+abbrev pub frameSaid : FrameRead → Read
+frameSaid r = record { said = frameFound (r .found); next = r .next }

@@ -1,0 +1,47 @@
+// Frames (document 01, "Lines from the board"): counter and mask, six data bytes, read at a place of a lent text.
+
+ghost use mathlib.Core.Path.{_≡_};
+ghost use Rattle.lines.specs.Frame.{readFrame, frameSaid};
+use crate::digits::hex_at;
+use crate::line::Line;
+use crate::line::read_line;
+use rules::refusal::Refusal;
+
+pub enum FrameFound {
+    // The place is at or past the end of the text.
+    End,
+    Frame { counter: u16, mask: u32 },
+    // 8 or 9.
+    Refused(Refusal),
+}
+
+// What was found at a place, and the place to read at next.
+pub struct FrameRead {
+    pub found: FrameFound,
+    pub next: usize,
+}
+
+pub fn read_frame(text: &[u8], place: usize) -> FrameRead
+    ensures { λ r. ⌜ frameSaid r ≡ readFrame (now (text .entry)) place ⌝ }
+{
+    let read = read_line(text, place, 6);
+    let next = read.next;
+    let line = read.line;
+    match line {
+        Line::End => FrameRead {
+            found: FrameFound::End,
+            next,
+        },
+        Line::Good => FrameRead {
+            found: FrameFound::Frame {
+                counter: hex_at(text, place, 0, 4) as u16,
+                mask: hex_at(text, place, 4, 8) as u32,
+            },
+            next,
+        },
+        Line::Refused(refusal) => FrameRead {
+            found: FrameFound::Refused(refusal),
+            next,
+        },
+    }
+}

@@ -1,0 +1,56 @@
+// Rule lines (document 01, "The program's text"): kind, x, y, a and b, eleven data bytes, read at a place of a lent text. The numbers are not judged.
+
+ghost use mathlib.Core.Path.{_≡_};
+ghost use Rattle.lines.specs.Rule.{readRule, ruleSaid};
+use crate::digits::hex_at;
+use crate::line::Line;
+use crate::line::read_line;
+use rules::refusal::Refusal;
+
+pub enum RuleFound {
+    // The place is at or past the end of the text.
+    End,
+    Rule {
+        kind: u32,
+        x: u32,
+        y: u32,
+        a: u32,
+        b: u32,
+    },
+    // 8 or 9.
+    Refused(Refusal),
+}
+
+// What was found at a place, and the place to read at next.
+pub struct RuleRead {
+    pub found: RuleFound,
+    pub next: usize,
+}
+
+pub fn read_rule(text: &[u8], place: usize) -> RuleRead
+    ensures { λ r. ⌜ ruleSaid r ≡ readRule (now (text .entry)) place ⌝ }
+{
+    let read = read_line(text, place, 11);
+    let next = read.next;
+    let line = read.line;
+    match line {
+        Line::End => RuleRead {
+            found: RuleFound::End,
+            next,
+        },
+        Line::Good => RuleRead {
+            found: RuleFound::Rule {
+                kind: hex_at(text, place, 0, 2) as u32,
+                x: hex_at(text, place, 2, 2) as u32,
+                y: hex_at(text, place, 4, 2) as u32,
+                a: hex_at(text, place, 6, 8) as u32,
+                b: hex_at(text, place, 14, 8) as u32,
+            },
+            next,
+        },
+        Line::Refused(refusal) => RuleRead {
+            found: RuleFound::Refused(refusal),
+            next,
+        },
+    }
+}
