@@ -23,12 +23,19 @@ byteA = 65
 abbrev pub byteF : ℕ
 byteF = 70
 
+-- "Hexadecimal", and the value of A.
+abbrev pub base : ℕ
+base = 16
+
+abbrev pub valueA : ℕ
+valueA = 10
+
 unfoldable pub isDigit : ℕ → Bool
 isDigit byte = (leb byte0 byte && leb byte byte9) || (leb byteA byte && leb byte byteF)
 
 -- The value of a digit, 0 of any other byte.
 unfoldable pub digitValue : ℕ → ℕ
-digitValue byte = cond (isDigit byte) (cond (leb byte byte9) (byte - byte0) (byte - byteA + 10)) 0
+digitValue byte = cond (isDigit byte) (cond (leb byte byte9) (byte - byte0) (byte - byteA + valueA)) 0
 
 -- How many of the n bytes at a place are digits, before the first that is not or is missing.
 unfoldable pub digitsAt : List ℕ → ℕ → ℕ → ℕ
@@ -38,15 +45,15 @@ digitsAt text place (suc n) = cond (isDigit (byteAt text place)) (suc (digitsAt 
 -- The value of the n digits at a place.
 unfoldable pub hexAt : List ℕ → ℕ → ℕ → ℕ
 hexAt text place zero = 0
-hexAt text place (suc n) = hexAt text place n * 16 + digitValue (byteAt text (place + n))
+hexAt text place (suc n) = hexAt text place n * base + digitValue (byteAt text (place + n))
 
 -- The digit of a value below 16, and the n low digits of any value.
 unfoldable pub digitByte : ℕ → ℕ
-digitByte value = cond (ltb value 10) (byte0 + value) (byteA + (value - 10))
+digitByte value = cond (ltb value valueA) (byte0 + value) (byteA + (value - valueA))
 
 unfoldable pub digits : ℕ → ℕ → List ℕ
 digits zero value = []
-digits (suc n) value = digits n (value / 16) ++ (digitByte (value % 16) ∷ [])
+digits (suc n) value = digits n (value / base) ++ (digitByte (value % base) ∷ [])
 
 -- The bytes at a place, over those that are there; every other byte stays.
 abbrev pub over : List ℕ → ℕ → List ℕ → List ℕ

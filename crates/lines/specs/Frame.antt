@@ -14,6 +14,7 @@ frameWidths = 2 ∷ 4 ∷ []
 abbrev pub readFrame : List ℕ → ℕ → Read
 readFrame = readLine frameWidths
 
+-- What the code's answer says, in the paper's numbers.
 abbrev pub frameFound : FrameFound → Said
 frameFound End = end
 frameFound (Frame counter mask) = numbers (counter ∷ mask ∷ [])

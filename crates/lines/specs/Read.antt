@@ -30,10 +30,12 @@ numbersAt text place offset [] = []
 numbersAt text place offset (width ∷ widths) =
     hexAt text (place + offset) (2 * width) ∷ numbersAt text place (offset + 2 * width) widths
 
+-- What is said of a line, given its numbers.
 abbrev pub saidOf : Line → List ℕ → Said
 saidOf End given = end
 saidOf Good given = numbers given
 saidOf (Refused r) given = refusal (refused r)
 
+-- Reading a line whose numbers have these widths: what is said, and the next place.
 abbrev pub readLine : List ℕ → List ℕ → ℕ → Read
 readLine widths text place = record { said = saidOf (lineAt text place (bytesOf widths)) (numbersAt text place 0 widths); next = nextPlace (lineAt text place (bytesOf widths)) text place (bytesOf widths) }

@@ -14,6 +14,7 @@ ruleWidths = 1 ∷ 1 ∷ 1 ∷ 4 ∷ 4 ∷ []
 abbrev pub readRule : List ℕ → ℕ → Read
 readRule = readLine ruleWidths
 
+-- What the code's answer says, in the paper's numbers.
 abbrev pub ruleFound : RuleFound → Said
 ruleFound End = end
 ruleFound (Rule kind x y a b) = numbers (kind ∷ x ∷ y ∷ a ∷ b ∷ [])

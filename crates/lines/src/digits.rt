@@ -66,6 +66,7 @@ pub(crate) fn hex_at(text: &[u8], place: usize, offset: usize, n: usize) -> u64
     value
 }
 
+// "0-9 A-F": capitals only.
 fn is_digit(byte: u8) -> bool
     ensures { λ r. ⌜ r ≡ isDigit byte ⌝ }
 {
@@ -94,6 +95,7 @@ fn digit_value(byte: u8) -> u64
     0
 }
 
+// The digit of a value.
 fn digit_byte(value: u64) -> u8
     requires { ⌜ value < 16 ⌝ }
     ensures { λ r. ⌜ r ≡ digitByte value ⌝ }

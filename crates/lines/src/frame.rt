@@ -7,6 +7,9 @@ use crate::line::Line;
 use crate::line::read_line;
 use rules::refusal::Refusal;
 
+// Counter and mask.
+const DATA_BYTES: usize = 6;
+
 pub enum FrameFound {
     // The place is at or past the end of the text.
     End,
@@ -21,10 +24,11 @@ pub struct FrameRead {
     pub next: usize,
 }
 
+// What stands at a place, judged by form and sum alone: the end, a frame, 8 or 9. Any place may be asked for.
 pub fn read_frame(text: &[u8], place: usize) -> FrameRead
     ensures { λ r. ⌜ frameSaid r ≡ readFrame (now (text .entry)) place ⌝ }
 {
-    let read = read_line(text, place, 6);
+    let read = read_line(text, place, DATA_BYTES);
     let next = read.next;
     let line = read.line;
     match line {

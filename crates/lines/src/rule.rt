@@ -7,6 +7,9 @@ use crate::line::Line;
 use crate::line::read_line;
 use rules::refusal::Refusal;
 
+// Kind, x, y, a and b.
+const DATA_BYTES: usize = 11;
+
 pub enum RuleFound {
     // The place is at or past the end of the text.
     End,
@@ -27,10 +30,11 @@ pub struct RuleRead {
     pub next: usize,
 }
 
+// What stands at a place, judged by form and sum alone: the end, a rule, 8 or 9. Any place may be asked for.
 pub fn read_rule(text: &[u8], place: usize) -> RuleRead
     ensures { λ r. ⌜ ruleSaid r ≡ readRule (now (text .entry)) place ⌝ }
 {
-    let read = read_line(text, place, 11);
+    let read = read_line(text, place, DATA_BYTES);
     let next = read.next;
     let line = read.line;
     match line {

@@ -17,15 +17,12 @@ Inv-loop text place n count₀ count =
 abbrev μ-loop : tie.MeasureT-loop
 μ-loop text place n count₀ count = n - count
 
--- src/digits.rt:12:5
 loop-holds : tie.Need-loop-holds Inv-loop μ-loop
 loop-holds c = (omega arith, simp (zero-add, add-zero, sub-zero))
 
--- src/digits.rt:13:22
 byte-at-requires : tie.Need-byte-at-requires Inv-loop μ-loop
 byte-at-requires c κs = search needs
 
--- src/digits.rt:13:13
 is-digit-requires : tie.Need-is-digit-requires Inv-loop μ-loop
 is-digit-requires c κs = search needs
 
@@ -40,21 +37,17 @@ returns c =
     let at = c .before .before .before .before in
     sym (at .loop .inv .1 ∙ count-ends (at .before .before .args .text .now) (at .before .before .args .place) (at .loop .count) (at .before .before .args .n) (c .before .before .before .loop-test .taken) (sym (judged (c .before)) ∙ c .if1 .left))
 
--- src/digits.rt:16:9
 add-count : tie.Need-add-count Inv-loop μ-loop
 add-count c = omega arith
 
--- src/digits.rt:12:5
 loop-less : tie.Need-loop-less Inv-loop μ-loop
 loop-less c = omega arith
 
--- src/digits.rt:12:5
 loop-again : tie.Need-loop-again Inv-loop μ-loop
 loop-again c =
     let at = c .before .before .before .before in
     (omega arith, at .loop .inv .1 ∙ count-digit (at .before .before .args .text .now) (at .before .before .args .place) (at .loop .count) (at .before .before .args .n) (c .before .before .before .loop-test .taken) (sym (judged (c .before)) ∙ c .if1 .taken))
 
--- src/digits.rt:8:1
 returns-2 : tie.Need-returns-2 Inv-loop μ-loop
 unfolding digitsAt
 returns-2 c =

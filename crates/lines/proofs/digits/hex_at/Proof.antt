@@ -16,7 +16,6 @@ Inv-loop text place offset n value₀ count₀ value count = (count ≤ n) × (v
 abbrev μ-loop : tie.MeasureT-loop
 μ-loop text place offset n value₀ count₀ value count = n - count
 
--- src/digits.rt:61:5
 loop-holds : tie.Need-loop-holds Inv-loop μ-loop
 unfolding hexAt
 loop-holds c = (omega arith, refl)
@@ -31,33 +30,26 @@ room c =
 mul-value : tie.Need-mul-value Inv-loop μ-loop
 mul-value c = omega (arith, room c)
 
--- src/digits.rt:62:63
 add-byte-at : tie.Need-add-byte-at Inv-loop μ-loop
 add-byte-at c = omega arith
 
--- src/digits.rt:62:42
 byte-at-requires : tie.Need-byte-at-requires Inv-loop μ-loop
 byte-at-requires c κs = search needs
 
--- src/digits.rt:62:30
 digit-value-requires : tie.Need-digit-value-requires Inv-loop μ-loop
 digit-value-requires c κs = search needs
 
--- src/digits.rt:62:17
 add-value : tie.Need-add-value Inv-loop μ-loop
 add-value c =
     let value : c .digit-value .result < 16 = rw (c .digit-value .ensures) (digitValue-below (c .before .byte-at .result)) in
     omega (arith, room (c .before .before))
 
--- src/digits.rt:63:9
 add-count : tie.Need-add-count Inv-loop μ-loop
 add-count c = omega arith
 
--- src/digits.rt:61:5
 loop-less : tie.Need-loop-less Inv-loop μ-loop
 loop-less c = omega arith
 
--- src/digits.rt:61:5
 loop-again : tie.Need-loop-again Inv-loop μ-loop
 unfolding hexAt
 loop-again c =
@@ -70,7 +62,6 @@ loop-again c =
     c .digit-value .ensures ∙ ap digitValue (c .before .byte-at .ensures ∙ ap (byteAt text) same) in
     (omega arith, rw (add-one, ← at .loop .inv .1, ← digit))
 
--- src/digits.rt:55:1
 returns : tie.Need-returns Inv-loop μ-loop
 returns c =
     let all : c .before .loop .count ≡ c .before .before .before .args .n = omega arith in

@@ -31,41 +31,32 @@ returns c =
     let short : length (c .before .before .args .out .now) < c .before .before .args .place + c .before .before .args .n = omega arith in
     no-room _ _ _ _ short
 
--- src/digits.rt:28:8
 sub-if2 : tie.Need-sub-if2 Inv-loop μ-loop
 sub-if2 c = omega arith
 
--- src/digits.rt:29:9
 returns-2 : tie.Need-returns-2 Inv-loop μ-loop
 returns-2 c =
     let short : length (c .before .before .before .args .out .now) < c .before .before .before .args .place + c .before .before .before .args .n = omega arith in
     no-room _ _ _ _ short
 
--- src/digits.rt:33:5
 loop-holds : tie.Need-loop-holds Inv-loop μ-loop
 loop-holds c = (omega arith, refl, refl)
 
--- src/digits.rt:34:9
 sub-left : tie.Need-sub-left Inv-loop μ-loop
 sub-left c = omega arith
 
--- src/digits.rt:35:29
 digit-byte-requires : tie.Need-digit-byte-requires Inv-loop μ-loop
 digit-byte-requires c κs = mod-lt _ (lit< tt)
 
--- src/digits.rt:35:13
 add-out : tie.Need-add-out Inv-loop μ-loop
 add-out c = omega arith
 
--- src/digits.rt:35:9
 slice-write-out : tie.Need-slice-write-out Inv-loop μ-loop
 slice-write-out c = omega arith
 
--- src/digits.rt:33:5
 loop-less : tie.Need-loop-less Inv-loop μ-loop
 loop-less c = omega arith
 
--- src/digits.rt:33:5
 loop-again : tie.Need-loop-again Inv-loop μ-loop
 loop-again c =
     let at = c .before .before in
@@ -81,11 +72,9 @@ loop-again c =
           ∙ at .loop .inv .2),
     )
 
--- src/digits.rt:22:1
 same-length : tie.Need-same-length Inv-loop μ-loop
 same-length c = omega arith
 
--- src/digits.rt:22:1
 returns-3 : tie.Need-returns-3 Inv-loop μ-loop
 returns-3 c =
     let at = c .before in

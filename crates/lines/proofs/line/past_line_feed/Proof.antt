@@ -15,35 +15,27 @@ Inv-loop text place next₀ next = pastLineFeed text place ≡ pastLineFeed text
 abbrev μ-loop : tie.MeasureT-loop
 μ-loop text place next₀ next = length text - next
 
--- src/line.rt:88:5
 loop-holds : tie.Need-loop-holds Inv-loop μ-loop
 loop-holds c = refl
 
--- src/line.rt:89:12
 shared-slice-read-if1 : tie.Need-shared-slice-read-if1 Inv-loop μ-loop
 shared-slice-read-if1 c = omega arith
 
--- src/line.rt:90:20
 add-result : tie.Need-add-result Inv-loop μ-loop
 add-result c = omega arith
 
--- src/line.rt:90:13
 returns : tie.Need-returns Inv-loop μ-loop
 returns c = sym (c .before .before .before .loop .inv ∙ past-found _ _ (c .before .before .loop-test .taken) (c .if1 .taken))
 
--- src/line.rt:92:9
 add-next : tie.Need-add-next Inv-loop μ-loop
 add-next c = omega arith
 
--- src/line.rt:88:5
 loop-less : tie.Need-loop-less Inv-loop μ-loop
 loop-less c = omega arith
 
--- src/line.rt:88:5
 loop-again : tie.Need-loop-again Inv-loop μ-loop
 loop-again c = c .before .before .before .loop .inv ∙ past-other _ _ (c .before .before .loop-test .taken) (c .if1 .left)
 
--- src/line.rt:84:1
 returns-2 : tie.Need-returns-2 Inv-loop μ-loop
 returns-2 c = sym (c .before .loop .inv ∙ past-end _ _ (c .loop-test .left))
 

@@ -16,20 +16,16 @@ Inv-loop text place n sum₀ count₀ sum count = (count ≤ n) × (sum ≡ sumA
 abbrev μ-loop : tie.MeasureT-loop
 μ-loop text place n sum₀ count₀ sum count = n - count
 
--- src/line.rt:76:5
 loop-holds : tie.Need-loop-holds Inv-loop μ-loop
 unfolding sumAt
 loop-holds c = (omega arith, refl)
 
--- src/line.rt:77:36
 mul-hex-at : tie.Need-mul-hex-at Inv-loop μ-loop
 mul-hex-at c = omega arith
 
--- src/line.rt:77:16
 hex-at-requires : tie.Need-hex-at-requires Inv-loop μ-loop
 hex-at-requires c κs = omega arith
 
--- src/line.rt:77:9
 add-sum : tie.Need-add-sum Inv-loop μ-loop
 add-sum c =
     let at = c .before .before in
@@ -37,20 +33,16 @@ add-sum c =
     let place = at .before .before .args .place in
     omega (arith, sumAt-most text place (at .loop .count), hexAt-below text (place + 2 * at .loop .count) 2)
 
--- src/line.rt:78:9
 add-count : tie.Need-add-count Inv-loop μ-loop
 add-count c = omega arith
 
--- src/line.rt:76:5
 loop-less : tie.Need-loop-less Inv-loop μ-loop
 loop-less c = omega arith
 
--- src/line.rt:76:5
 loop-again : tie.Need-loop-again Inv-loop μ-loop
 unfolding sumAt
 loop-again c = (omega arith, rw (add-one, ← c .before .before .loop .inv .1, ← c .hex-at .ensures))
 
--- src/line.rt:70:1
 returns : tie.Need-returns Inv-loop μ-loop
 returns c =
     let all : c .before .loop .count ≡ c .before .before .before .args .n = omega arith in
