@@ -6,3 +6,6 @@ pub mod FigureLaws
 pub mod StretchesLaws
 pub mod TableLaws
 pub mod PassedLaws
+pub mod RowFormulaLaws
+pub mod Outcomes
+pub mod ExactlyLaws

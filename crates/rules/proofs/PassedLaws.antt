@@ -3,26 +3,30 @@ use mathlib.Core.Bool.{Bool, true, false, cond, _&&_, _||_}
 use mathlib.Core.List.{List}
 use mathlib.Core.Logic.{_⊎_, ⊎-map, ⊎-elim}
 use mathlib.Core.Option.{Option, none, some}
-use mathlib.Core.Path.{_≡_, refl}
-use Prim.Native.Nat.{ℕ, zero, suc, _+_, _*_, _/_, _%_, _≤_, _<_}
-use native.Mathlib.Nat.{eq-or-lt-of-le, le-of-suc-le-suc, div-add-mod}
+use mathlib.Core.Path.{_≡_, refl, sym, ap, _∙_}
+use Prim.Native.Nat.{ℕ, zero, suc, _+_, _*_, _/_, _≤_, _<_}
+use native.Mathlib.Nat.{eq-or-lt-of-le, le-of-suc-le-suc}
 use native.Mathlib.Omega.{arith}
-use lib.Dec.{leb, ltb, eqb}
+use lib.Dec.{leb, eqb}
 use lib.ListN.{length}
-use borrow.Author.Tests.{leb-true, ltb-true, eqb-true, eq-eqb}
-use Rattle.meaning.specs.Interval.{endOf, noEndNumber}
+use borrow.Author.Tests.{leb-true, ltb-true, eqb-true, eq-eqb, ne-eqb}
+use Rattle.meaning.specs.Interval.{endOf, upTo, noEnd, noEndNumber}
 use Rattle.meaning.specs.Figure.{figure}
-use Rattle.rules.specs.Limits.{rowNumbers, rowLimit, maskBits, longest, spanWords}
+use Rattle.rules.specs.Limits.{rowNumbers, rowLimit, longest, spanWords}
 use Rattle.rules.specs.Kinds.{kinds, known, kindAt, fits}
-use Rattle.rules.specs.Rows.{rowsOf, numbersAt}
-use Rattle.rules.specs.Stretches.{spansOf, width, offset, needOf}
+use Rattle.rules.specs.Rows.{rowsOf, numbersAt, ruleOf}
+use Rattle.rules.specs.Stretches.{width, offset, needOf}
 use Rattle.rules.specs.Refusals.{Refused, refused}
-use Rattle.rules.specs.Table.{lengthPasses, rowPasses, limitsPass, faultOf, firstFault, firstOf, passed, refusedBy, saidOf, checkOf}
+use Rattle.rules.specs.Table.{lengthPasses, rowPasses, limitsPass, faultOf, firstFault, orElse, passed, refusedBy, saidOf, checkOf}
+use Rattle.rules.specs.RowFormula.{madeOf, formulaOf}
 use Rattle.rules.specs.declared.kinds.Use.{Use}
 use Rattle.rules.specs.declared.kinds.Use.the-variants.{Unused, Bit, Lower, Limit}
 use Rattle.rules.specs.declared.numbers.Numbers.{Numbers}
 use Rattle.rules.specs.declared.refusal.Refusal.the-variants.{Length, Row, Limits}
 use Rattle.rules.proofs.Truths.{and-left, and-right, or-cases}
+use Rattle.rules.proofs.KindsLaws.{Fits, Names, names-lower}
+use Rattle.rules.proofs.TableLaws.{length-told}
+use Rattle.rules.proofs.RowFormulaLaws.{formula-made}
 use Rattle.rules.proofs.FigureLaws.{figure-most}
 use Rattle.rules.proofs.StretchesLaws.{spans-most}
 
@@ -31,13 +35,6 @@ pub record InRange (a b : ℕ) : Type 0 where
   pub least : a ≤ longest
   pub most : (b ≡ noEndNumber) ⊎ ((a ≤ b) × (b ≤ longest))
 
--- What a number that fits its use is.
-abbrev pub Fits : ℕ → Use → ℕ → Type 0
-Fits r Unused number = number ≡ 0
-Fits r Bit number = number < maskBits
-Fits r Lower number = number < r
-Fits r Limit number = Unit
-
 -- What a row that passes is.
 pub record Good (r : ℕ) (row : Numbers) : Type 0 where
   pub known : row .kind < length kinds
@@ -45,6 +42,7 @@ pub record Good (r : ℕ) (row : Numbers) : Type 0 where
   pub y : Fits r (kindAt (row .kind) .y) (row .y)
   pub a : Fits r (kindAt (row .kind) .a) (row .a)
   pub b : Fits r (kindAt (row .kind) .b) (row .b)
+  pub names : Names r row (ruleOf row)
   pub limits : InRange (row .a) (row .b)
 
 -- What a table that passes is, with its row count and need.
@@ -96,17 +94,21 @@ good-row r row h =
     let all : ((((known (row .kind)) && (((x && y) && a) && b))) ≡ true) = row-tests r row h .0 in
     let numbers : ((((x && y) && a) && b) ≡ true) = and-right (known (row .kind)) (((x && y) && a) && b) all in
     let first : (((x && y) && a) ≡ true) = and-left ((x && y) && a) b numbers in
+    let known-kind : row .kind < length kinds = ltb-true _ _ (and-left (known (row .kind)) (((x && y) && a) && b) all) in
+    let x-fits : Fits r (k .x) (row .x) = fits-told r (k .x) (row .x) (and-left x y (and-left (x && y) a first)) in
+    let y-fits : Fits r (k .y) (row .y) = fits-told r (k .y) (row .y) (and-right x y (and-left (x && y) a first)) in
     record {
-      known = ltb-true _ _ (and-left (known (row .kind)) (((x && y) && a) && b) all);
-      x = fits-told r (k .x) (row .x) (and-left x y (and-left (x && y) a first));
-      y = fits-told r (k .y) (row .y) (and-right x y (and-left (x && y) a first));
+      known = known-kind;
+      x = x-fits;
+      y = y-fits;
       a = fits-told r (k .a) (row .a) (and-right (x && y) a first);
       b = fits-told r (k .b) (row .b) (and-right ((x && y) && a) b numbers);
+      names = names-lower r row known-kind x-fits y-fits;
       limits = in-range (row .a) (row .b) (row-tests r row h .1);
     }
 
 -- No fault among some rows is none before the last of them, and none at it.
-first-none : (o next : Option Refused) → firstOf o next ≡ none → (o ≡ none) × (next ≡ none)
+first-none : (o next : Option Refused) → orElse o next ≡ none → (o ≡ none) × (next ≡ none)
 first-none none next h = (refl, h)
 first-none (some fault) next h = let z : _≡_ {A = ℕ} 0 1 = cc in absurd (omega arith)
 
@@ -145,3 +147,51 @@ offset-most table (suc n) good =
     let here : width (numbersAt table n) ≤ widest = width-most (numbersAt table n) (good n (omega arith) .limits) in
     let before : offset table n ≤ n * widest = offset-most table n (λ r lower. good r (omega arith)) in
     omega arith
+
+-- The last stretch ends at the need.
+pub stretch-last : (table : List ℕ) (rows need : ℕ) → Passed table rows need → offset table rows ≡ need
+stretch-last table rows need h = ap (offset table) (h .counted) ∙ sym (h .needed)
+
+-- No table needs more than so many rows that are as wide as can be; that is far below 2 ^ 64.
+pub need-most : (table : List ℕ) (rows need : ℕ) → Passed table rows need → need ≤ rowLimit * widest
+need-most table rows need h =
+    let few : rows ≤ rowLimit = h .few-rows in
+    let sum : offset table rows ≤ rows * widest = offset-most table rows (h .good) in
+    let same : offset table rows ≡ need = stretch-last table rows need h in
+    omega arith
+
+-- The end that b stands for, where a and b are in range.
+pub end-in-range : (a b : ℕ) → InRange a b → (endOf b ≡ noEnd) ⊎ ((endOf b ≡ upTo b) × (a ≤ b) × (b ≤ longest))
+unfolding endOf
+end-in-range a b range =
+    ⊎-map
+    (λ e. rw (eq-eqb b noEndNumber e))
+    (λ both. (rw (ne-eqb b noEndNumber (λ e. omega arith)), both .0, both .1))
+    (range .most)
+
+-- A table that passes, by the answer of its check.
+answer-parts :
+    (p : Bool) (o : Option Refused) (refusal : Refused) (n m rows need : ℕ)
+    → cond p (saidOf o n m) (refusedBy refusal) ≡ passed rows need
+    → (p ≡ true) × (o ≡ none) × (rows ≡ n) × (need ≡ m)
+answer-parts true none refusal n m rows need h = (refl, refl, (cc), (cc))
+answer-parts true (some fault) refusal n m rows need h = let z : _≡_ {A = ℕ} 0 1 = cc in absurd (omega arith)
+answer-parts false o refusal n m rows need h = let z : _≡_ {A = ℕ} 0 1 = cc in absurd (omega arith)
+
+pub passed-gives : (table : List ℕ) (rows need : ℕ) → checkOf table ≡ passed rows need → Passed table rows need
+unfolding checkOf
+passed-gives table rows need h =
+    let parts = answer-parts (lengthPasses (length table)) (firstFault table (rowsOf table)) (refused Length) (rowsOf table) (needOf table) rows need h in
+    let size = length-told (length table) (parts .0) in
+    record {
+      whole = omega (arith, parts .2);
+      some-row = omega (arith, parts .2);
+      few-rows = omega (arith, parts .2);
+      counted = parts .2;
+      needed = parts .3;
+      good = rw (parts .2) (rows-good table (rowsOf table) (parts .1));
+    }
+
+-- The formula of each row of a table that passes is made of those of the rows that it names.
+pub passed-formula : (table : List ℕ) (rows need r : ℕ) → Passed table rows need → r < rows → formulaOf table r ≡ madeOf table r (formulaOf table)
+passed-formula table rows need r h lower = formula-made table r (h .good r lower .names)

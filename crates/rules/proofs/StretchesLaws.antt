@@ -1,13 +1,16 @@
 -- Laws of the stretches.
-use mathlib.Core.Bool.{Bool, true, false, cond}
+use mathlib.Core.Bool.{cond}
+use mathlib.Core.List.{List}
+use mathlib.Core.Logic.{⊎-elim}
 use mathlib.Core.Path.{_≡_, refl}
-use Prim.Native.Nat.{ℕ, _+_, _/_, _≤_}
+use Prim.Native.Nat.{ℕ, zero, suc, _+_, _/_, _≤_, _<_}
+use native.Mathlib.Nat.{eq-or-lt-of-le, le-of-suc-le-suc}
 use native.Mathlib.Omega.{arith}
 use Rattle.meaning.specs.Interval.{endOf}
 use Rattle.meaning.specs.Figure.{figure}
 use Rattle.rules.specs.Kinds.{Rule, plain, stretch, hasStretch}
-use Rattle.rules.specs.Rows.{ruleOf}
-use Rattle.rules.specs.Stretches.{spansSaid, spansOf}
+use Rattle.rules.specs.Rows.{numbersAt, ruleOf}
+use Rattle.rules.specs.Stretches.{spansSaid, spansOf, width, offset}
 use Rattle.rules.specs.declared.numbers.Numbers.{Numbers}
 use Rattle.rules.proofs.FigureLaws.{figure-most}
 
@@ -26,3 +29,22 @@ spans-most row = said-most (ruleOf row) row
 
 pub spans-below : (row : Numbers) → spansOf row ≤ row .b / 2 + 1
 spans-below row = omega (arith, spans-most row, figure-most (row .a) (row .b))
+
+-- The first stretch begins at word 0, and each where the former ends.
+pub stretch-first : (table : List ℕ) → offset table 0 ≡ 0
+unfolding offset
+stretch-first table = refl
+
+pub stretch-next : (table : List ℕ) (r : ℕ) → offset table (suc r) ≡ offset table r + width (numbersAt table r)
+unfolding offset
+stretch-next table r = refl
+
+-- So a stretch ends where a later one begins, or before it.
+pub stretch-before : (table : List ℕ) (r n : ℕ) → r < n → offset table r + width (numbersAt table r) ≤ offset table n
+unfolding offset
+stretch-before table r zero lower = absurd (omega arith)
+stretch-before table r (suc n) lower =
+    ⊎-elim
+    (λ e. rw e (omega arith))
+    (λ further. let before = stretch-before table r n further in omega arith)
+    (eq-or-lt-of-le (le-of-suc-le-suc lower))

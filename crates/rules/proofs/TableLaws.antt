@@ -1,30 +1,27 @@
 -- Laws of the table check: what each test decides, the first fault, and that the need fits.
-use mathlib.Core.Bool.{Bool, true, false, cond, _&&_, _||_}
+use mathlib.Core.Bool.{Bool, true, false, _&&_}
 use mathlib.Core.List.{List}
-use mathlib.Core.Logic.{_⊎_, inl, inr, ⊎-elim}
+use mathlib.Core.Logic.{_⊎_, ⊎-elim}
 use mathlib.Core.Option.{Option, none, some}
-use mathlib.Core.Path.{_≡_, refl, sym, ap, _∙_}
-use Prim.Native.Nat.{ℕ, zero, suc, _+_, _*_, _/_, _≤_, _<_}
+use mathlib.Core.Path.{_≡_, refl, _∙_}
+use Prim.Native.Nat.{ℕ, zero, suc, _+_, _/_, _%_, _≤_, _<_}
 use native.Mathlib.Nat.{eq-or-lt-of-le, le-of-suc-le-suc}
 use native.Mathlib.Numerals.{add-one}
 use native.Mathlib.Omega.{arith}
 use lib.Dec.{leb, eqb}
-use borrow.Author.Tests.{leb-true, eqb-true, eq-eqb}
-use Rattle.meaning.specs.Interval.{endOf, noEndNumber}
-use Rattle.meaning.specs.Figure.{figure}
-use Rattle.rules.specs.Limits.{rowNumbers, rowLimit, longest, spanWords}
+use lib.ListN.{length}
+use borrow.Author.Tests.{leb-true, eqb-true}
+use Rattle.rules.specs.Limits.{rowNumbers, rowLimit}
 use Rattle.rules.specs.Kinds.{known, kindAt, lineOf, useOf, fits}
 use Rattle.rules.specs.Rows.{rowsOf, numberAt, numbersAt}
-use Rattle.rules.specs.Stretches.{width, offset, needOf}
+use Rattle.rules.specs.Stretches.{width, offset}
 use Rattle.rules.specs.Refusals.{Refused, refused}
-use Rattle.rules.specs.Table.{lengthPasses, rowPasses, limitsPass, faultOf, firstFault, firstOf, Said, passed, refusedBy, saidOf, checkOf}
+use Rattle.rules.specs.Table.{lengthPasses, rowPasses, limitsPass, faultOf, firstFault, passed, refusedBy, checkOf}
 use Rattle.rules.specs.declared.kinds.Use.{Use}
 use Rattle.rules.specs.declared.kinds.Line.{Line}
 use Rattle.rules.specs.declared.numbers.Numbers.{Numbers}
 use Rattle.rules.specs.declared.refusal.Refusal.the-variants.{Length, Row, Limits}
-use Rattle.rules.proofs.Truths.{and-false, and-left, and-right, or-cases}
-use Rattle.rules.proofs.FigureLaws.{figure-most}
-use Rattle.rules.proofs.StretchesLaws.{spans-most}
+use Rattle.rules.proofs.Truths.{and-false, and-left, and-right}
 
 -- The number at a field of a row fits its use.
 abbrev pub fieldFits : List ℕ → ℕ → ℕ → Bool
@@ -86,14 +83,56 @@ first-kept table r (suc n) fault h within =
     (λ lower. rw (first-kept table r n fault h (le-of-suc-le-suc lower)))
     (eq-or-lt-of-le within)
 
+-- The first fault is that of a row, and no row before it has one.
+pub record Found (table : List ℕ) (n : ℕ) (fault : Refused) : Type 0 where
+  pub row : ℕ
+  pub within : row < n
+  pub none-before : firstFault table row ≡ none
+  pub here : faultOf row (numbersAt table row) ≡ some fault
+
+pub first-found : (table : List ℕ) (n : ℕ) (fault : Refused) → firstFault table n ≡ some fault → Found table n fault
+unfolding firstFault
+first-found table zero fault h = let z : _≡_ {A = ℕ} 0 1 = cc in absurd (omega arith)
+first-found table (suc n) fault h = go (first-found table n fault) (firstFault table n) refl
+  where
+    go :
+        (firstFault table n ≡ some fault → Found table n fault)
+        → (o : Option Refused)
+        → firstFault table n ≡ o
+        → Found table (suc n) fault
+    go lower none e = record { row = n; within = omega arith; none-before = e; here = rw e at h }
+    go lower (some f) e =
+        let found = lower (e ∙ rw e at h) in
+        record { row = found .row; within = omega (arith, found .within); none-before = found .none-before; here = found .here }
+
 -- A fault after rows without one is the first.
 pub first-at : (table : List ℕ) (r : ℕ) (fault : Option Refused) → firstFault table r ≡ none → faultOf r (numbersAt table r) ≡ fault → firstFault table (suc r) ≡ fault
 unfolding firstFault
 first-at table r fault h e = rw (h, e)
 
+-- 1: "table length not a multiple of 5, or rows not 1 to 64", where it passes.
+pub record WholeRows (numbers : ℕ) : Type 0 where
+  pub no-rest : numbers % rowNumbers ≡ 0
+  pub some-row : 1 ≤ numbers / rowNumbers
+  pub few-rows : numbers / rowNumbers ≤ rowLimit
+
+pub length-told : (numbers : ℕ) → lengthPasses numbers ≡ true → WholeRows numbers
+unfolding lengthPasses
+length-told numbers h =
+    let whole : Bool = eqb (numbers % rowNumbers) 0 in
+    let least : Bool = leb 1 (numbers / rowNumbers) in
+    let most : Bool = leb (numbers / rowNumbers) rowLimit in
+    let first : ((whole && least) ≡ true) = and-left (whole && least) most h in
+    record {
+      no-rest = eqb-true _ _ (and-left whole least first);
+      some-row = leb-true _ _ (and-right whole least first);
+      few-rows = leb-true _ _ (and-right (whole && least) most h);
+    }
+
 -- Where the table check stands after some rows: all of them pass, and this much is needed for them.
 pub record Reached (table : List ℕ) (need row : ℕ) : Type 0 where
-  pub size : lengthPasses table ≡ true
+  pub size : lengthPasses (length table) ≡ true
+  pub whole : WholeRows (length table)
   pub within : row ≤ rowsOf table
   pub so-far : need ≡ offset table row
   pub good : firstFault table row ≡ none
@@ -126,12 +165,13 @@ module _ (table : List ℕ) (need r : ℕ) (reached : Reached table need r) wher
   reached-more words more h e =
       record {
         size = reached .size;
+        whole = reached .whole;
         within = omega arith;
         so-far = rw (add-one, reached .so-far, e);
         good = rw (add-one, first-at table r none (reached .good) h);
       }
 
 -- 1: the length is wrong.
-pub refused-length : (table : List ℕ) → lengthPasses table ≡ false → refusedBy (refused Length) ≡ checkOf table
+pub refused-length : (table : List ℕ) → lengthPasses (length table) ≡ false → refusedBy (refused Length) ≡ checkOf table
 unfolding checkOf
 refused-length table h = rw h

@@ -1,6 +1,6 @@
 -- The one table of kinds (document 01, "The rule table"). A new kind is one line more.
 use mathlib.Core.Bool.{Bool, true, false, cond}
-use mathlib.Core.List.{List, [], _∷_, _++_}
+use mathlib.Core.List.{List, [], _∷_}
 use Prim.Native.Nat.{ℕ}
 use lib.Dec.{eqb, ltb}
 use lib.ListN.{length, getD}
@@ -41,12 +41,19 @@ kind x y a b rule = record { x = x; y = y; a = a; b = b; rule = rule }
 
 abbrev pub kinds : List Kind
 kinds =
+    -- 0: "true"
     kind Unused Unused Unused Unused (plain truth)
+    -- 1: "bit x of the event's mask is set"
     ∷ kind Bit Unused Unused Unused (plain bit)
+    -- 2: "row x is false"
     ∷ kind Lower Unused Unused Unused (plain negation)
+    -- 3: "rows x and y both true"
     ∷ kind Lower Lower Unused Unused (plain both)
+    -- 4: "row x or row y true"
     ∷ kind Lower Lower Unused Unused (plain either)
+    -- 5: "there is an event i-1, row x was true at it, and t(i)-t(i-1) is in [a,b]"
     ∷ kind Lower Unused Limit Limit (plain previous)
+    -- 6: "x since y"
     ∷ kind Lower Lower Limit Limit (stretch rowX rowY)
     ∷ []
 
@@ -58,7 +65,7 @@ known k = ltb k (length kinds)
 unfoldable pub kindAt : ℕ → Kind
 kindAt k = getD kinds k (kind Unused Unused Unused Unused (plain truth))
 
--- "each since row owns its own stretch": whether what a row says has one is told by the table.
+-- "each since row owns its own stretch": the table tells which kinds do, by what their rows say.
 abbrev pub hasStretch : Rule → Bool
 hasStretch (plain says) = false
 hasStretch (stretch keep feed) = true

@@ -3,7 +3,7 @@ use mathlib.Core.List.{List}
 use Prim.Native.Nat.{ℕ, _+_, _*_, _/_}
 use lib.ListN.{length, getD}
 use Rattle.rules.specs.Limits.{rowNumbers}
-use Rattle.rules.specs.Kinds.{Rule, kindAt}
+use Rattle.rules.specs.Kinds.{Source, rowX, rowY, Rule, kindAt}
 use Rattle.rules.specs.declared.numbers.Numbers.{Numbers}
 
 abbrev pub rowsOf : List ℕ → ℕ
@@ -26,3 +26,8 @@ numbersAt table row =
 -- What a row says, decoded once.
 abbrev pub ruleOf : Numbers → Rule
 ruleOf row = kindAt (row .kind) .rule
+
+-- The row that a source names.
+abbrev pub named : Source → Numbers → ℕ
+named rowX row = row .x
+named rowY row = row .y

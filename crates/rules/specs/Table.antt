@@ -2,7 +2,7 @@
 use mathlib.Core.Bool.{Bool, cond, _&&_, _||_}
 use mathlib.Core.List.{List}
 use mathlib.Core.Option.{Option, none, some}
-use Prim.Native.Nat.{ℕ, zero, suc, _%_}
+use Prim.Native.Nat.{ℕ, zero, suc, _/_, _%_}
 use lib.Dec.{eqb, leb}
 use lib.ListN.{length}
 use Rattle.meaning.specs.Interval.{noEndNumber}
@@ -16,8 +16,8 @@ use Rattle.rules.specs.declared.refusal.Refusal.the-variants.{Length, Ro
 use Rattle.rules.specs.declared.table.Checked as Answer
 
 -- 1: "table length not a multiple of 5, or rows not 1 to 64".
-unfoldable pub lengthPasses : List ℕ → Bool
-lengthPasses table = eqb (length table % rowNumbers) 0 && leb 1 (rowsOf table) && leb (rowsOf table) rowLimit
+unfoldable pub lengthPasses : ℕ → Bool
+lengthPasses numbers = eqb (numbers % rowNumbers) 0 && leb 1 (numbers / rowNumbers) && leb (numbers / rowNumbers) rowLimit
 
 -- 2: "row: kind over 6, x or y not lower, bit over 31, unused not 0".
 abbrev pub numbersFit : ℕ → Kind → Numbers → Bool
@@ -38,13 +38,13 @@ faultOf r row =
     (some (refused (Row r)))
 
 -- "Among rows the first bad row decides and nothing after it is looked at."
-abbrev pub firstOf : Option Refused → Option Refused → Option Refused
-firstOf none next = next
-firstOf (some fault) next = some fault
+abbrev pub orElse : Option Refused → Option Refused → Option Refused
+orElse none next = next
+orElse (some fault) next = some fault
 
 unfoldable pub firstFault : List ℕ → ℕ → Option Refused
 firstFault table zero = none
-firstFault table (suc r) = firstOf (firstFault table r) (faultOf r (numbersAt table r))
+firstFault table (suc r) = orElse (firstFault table r) (faultOf r (numbersAt table r))
 
 -- "The table check gives the row count and need", or a refusal with the paper's number and values.
 pub data Said : Type 0 where
@@ -57,7 +57,7 @@ saidOf (some fault) rows need = refusedBy fault
 
 unfoldable pub checkOf : List ℕ → Said
 checkOf table =
-    cond (lengthPasses table)
+    cond (lengthPasses (length table))
     (saidOf (firstFault table (rowsOf table)) (rowsOf table) (needOf table))
     (refusedBy (refused Length))
 

@@ -1,7 +1,7 @@
 // The one table of kinds (document 01, "The rule table"), private to the crate. A new kind is one line more.
 
 ghost use mathlib.Core.Path.{_≡_};
-ghost use Rattle.rules.specs.Kinds.{kindAt, known, ownsStretch, lineOf, useOf, fits};
+ghost use Rattle.rules.specs.Kinds.{kindAt, known, lineOf, useOf, fits};
 use crate::limits::MASK_BITS;
 
 // What a number of a row is used as.
@@ -59,14 +59,6 @@ pub fn line_of(kind: u32) -> Line
         return KINDS[kind as usize];
     }
     Line(UNUSED, UNUSED, UNUSED, UNUSED, false)
-}
-
-// Whether a row of the kind owns a stretch.
-pub fn owns_stretch(kind: u32) -> bool
-    ensures { λ r. ⌜ r ≡ ownsStretch kind ⌝ }
-{
-    let line = line_of(kind);
-    line.4
 }
 
 // What the number at a field of a row is used as; the fields are x, y, a and b, from 1 on.

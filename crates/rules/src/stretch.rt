@@ -4,17 +4,26 @@ ghost use mathlib.Core.Path.{_≡_};
 ghost use Prim.Native.Nat.{_-_};
 ghost use Rattle.meaning.specs.Interval.{endOf};
 ghost use Rattle.meaning.specs.Figure.{figure};
+ghost use Rattle.rules.specs.Kinds.{ownsStretch};
 ghost use Rattle.rules.specs.Stretches.{spansOf, width};
 use crate::kinds;
 use crate::limits::NO_END;
 use crate::limits::SPAN_WORDS;
 use crate::numbers::Numbers;
 
+// Whether a row owns a stretch, by the table of kinds.
+pub fn is_owned(row: Numbers) -> bool
+    ensures { λ r. ⌜ r ≡ ownsStretch (row .kind) ⌝ }
+{
+    let line = kinds::line_of(row.kind);
+    line.4
+}
+
 // The spans that a row may need; a row that owns no stretch needs none.
 pub fn spans(row: Numbers) -> u64
     ensures { λ r. ⌜ r ≡ spansOf row ⌝ }
 {
-    if kinds::owns_stretch(row.kind) {
+    if is_owned(row) {
         return spans_for(row.a, row.b);
     }
     0

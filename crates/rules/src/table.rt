@@ -1,7 +1,7 @@
 // The check of a rule table (document 01, "The rule table" and "Refusal numbers"), which start and every event begin with.
 
 ghost use mathlib.Core.Path.{_≡_};
-ghost use Rattle.rules.specs.Table.{checkOf, said, limitsPass};
+ghost use Rattle.rules.specs.Table.{checkOf, said, lengthPasses, limitsPass};
 use crate::kinds;
 use crate::limits::LONGEST;
 use crate::limits::NO_END;
@@ -23,23 +23,17 @@ pub enum Checked {
 pub fn check(table: &[u32]) -> Checked
     ensures { λ r. ⌜ said r ≡ checkOf (now (table .entry)) ⌝ }
 {
-    if table.len() % ROW_NUMBERS != 0 {
+    if !length_passes(table.len()) {
         return Checked::Refused(Refusal::Length);
     }
     let rows = table.len() / ROW_NUMBERS;
-    if rows < 1 {
-        return Checked::Refused(Refusal::Length);
-    }
-    if ROW_LIMIT < rows {
-        return Checked::Refused(Refusal::Length);
-    }
     let mut need: u64 = 0;
     let mut row: usize = 0;
     'rows: loop {
         if rows <= row {
             break 'rows Checked::Passed {
                 rows: rows as u32,
-                need: need,
+                need,
             };
         }
         let found = numbers::numbers_at(table, row);
@@ -61,6 +55,19 @@ pub fn check(table: &[u32]) -> Checked
         need += stretch::words(found);
         row += 1;
     }
+}
+
+// Whether so many numbers are 1 to 64 whole rows.
+fn length_passes(length: usize) -> bool
+    ensures { λ r. ⌜ r ≡ lengthPasses length ⌝ }
+{
+    if length % ROW_NUMBERS != 0 {
+        return false;
+    }
+    if length / ROW_NUMBERS < 1 {
+        return false;
+    }
+    length / ROW_NUMBERS <= ROW_LIMIT
 }
 
 // Whether a and b are in range: a 0 to 86,400,000, b from a to 86,400,000 or no end.

@@ -1,11 +1,10 @@
 -- `rules::kinds::line_of` meets its contract: the code's table is the table of kinds, by `line-at`. Assumes nothing.
 use borrow.Author.Needs.{needs}
 use borrow.Author.Tests.{ltb-true, ltb-false}
-use mathlib.Core.Path.{_≡_, sym, _∙_, ap}
-use native.Mathlib.Omega.{arith}
-use Prim.Native.Nat.{_<_, _≤_}
+use mathlib.Core.Path.{sym, _∙_}
+use Prim.Native.Nat.{_≤_}
 use lib.ListN.{length, List·getD-eq-default}
-use Rattle.rules.specs.Kinds.{kinds, kindAt, lineOf}
+use Rattle.rules.specs.Kinds.{kinds, kindAt}
 use Rattle.rules.proofs.KindsLaws.{line-at}
 use Rattle.rules.proofs.kinds.line_of.Statement.{statement}
 use Rattle.rules.proofs.kinds.line_of.Tie as tie

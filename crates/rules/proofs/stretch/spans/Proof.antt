@@ -5,18 +5,18 @@ use Rattle.rules.proofs.StretchesLaws.{spans-by-column}
 use Rattle.rules.proofs.stretch.spans.Statement.{statement}
 use Rattle.rules.proofs.stretch.spans.Tie as tie
 
-owns-stretch-requires : tie.Need-owns-stretch-requires
-owns-stretch-requires c κs = search needs
+is-owned-requires : tie.Need-is-owned-requires
+is-owned-requires c κs = search needs
 
 spans-for-requires : tie.Need-spans-for-requires
 spans-for-requires c κs = search needs
 
 returns : tie.Need-returns
 returns c =
-    rw (spans-by-column, sym (c .before .before .owns-stretch .ensures) ∙ c .before .if1 .taken, c .spans-for .ensures)
+    rw (spans-by-column, sym (c .before .before .is-owned .ensures) ∙ c .before .if1 .taken, c .spans-for .ensures)
 
 returns-2 : tie.Need-returns-2
-returns-2 c = rw (spans-by-column, sym (c .before .owns-stretch .ensures) ∙ c .if1 .left)
+returns-2 c = rw (spans-by-column, sym (c .before .is-owned .ensures) ∙ c .if1 .left)
 
 pub spans-spec : {M : Type 1} → statement M
-spans-spec = tie.close (tie.spec owns-stretch-requires spans-for-requires returns returns-2)
+spans-spec = tie.close (tie.spec is-owned-requires spans-for-requires returns returns-2)

@@ -2,22 +2,23 @@
 -- stretch begins. After some fields of a row, each of these fits. A way out at a fault is `refused-at`, the way out at the end `passed-at`.
 -- The measures are the rows and the fields that are left. Assumes nothing.
 use Prim.Native.Nat.{ℕ, _-_, _≤_, _<_}
-use mathlib.Core.Bool.{true, false}
+use mathlib.Core.Bool.{true}
 use mathlib.Core.List.{List}
 use mathlib.Core.Option.{some}
 use mathlib.Core.Logic.{⊎-elim}
 use mathlib.Core.Path.{_≡_, refl, sym, ap, _∙_}
 use native.Mathlib.Nat.{eq-or-lt-of-le}
+use lib.ListN.{length}
 use native.Mathlib.Omega.{arith}
-use borrow.Author.Tests.{not-true, not-false, eq-eqb, ne-eqb, le-leb, lt-leb}
+use borrow.Author.Tests.{not-true, not-false}
 use Rattle.rules.specs.Limits.{rowNumbers}
 use Rattle.rules.specs.Kinds.{known}
-use Rattle.rules.specs.Rows.{rowsOf, numbersAt}
+use Rattle.rules.specs.Rows.{numbersAt}
 use Rattle.rules.specs.Refusals.{Refused}
 use Rattle.rules.specs.Stretches.{width, offset}
 use Rattle.rules.specs.Table.{lengthPasses, rowPasses, limitsPass, faultOf, firstFault, refusedBy, checkOf}
 use Rattle.rules.specs.declared.numbers.Numbers.{Numbers}
-use Rattle.rules.proofs.TableLaws.{Reached, fieldFits, field-told, row-passes, row-unknown, row-unfit, fault-row, fault-limits, fault-none, refused-at, passed-at, reached-more, refused-length}
+use Rattle.rules.proofs.TableLaws.{Reached, fieldFits, field-told, row-passes, row-unknown, row-unfit, fault-row, fault-limits, fault-none, refused-at, passed-at, reached-more, refused-length, length-told}
 use Rattle.rules.proofs.PassedLaws.{in-range, rows-good, width-most, offset-most}
 use Rattle.rules.proofs.table.check.Statement.{statement}
 use Rattle.rules.proofs.table.check.Tie as tie
@@ -40,14 +41,14 @@ abbrev At-row : Type 0
 At-row = tie.After-numbers-at Inv-fields μ-fields Inv-rows μ-rows
 
 abbrev tableAt : At-row → List ℕ
-tableAt c = c .before .before .before .before .before .before .before .args .table .now
+tableAt c = c .before .before .before .before .before .before .args .table .now
 
 abbrev rowAt : At-row → ℕ
 rowAt c = c .before .before .rows .row
 
 refused-here : (c : At-row) (fault : Refused) → faultOf (rowAt c) (numbersAt (tableAt c) (rowAt c)) ≡ some fault → refusedBy fault ≡ checkOf (tableAt c)
 refused-here c fault h =
-    refused-at (tableAt c) (c .before .before .rows .need) (rowAt c) (c .before .before .rows .inv) fault (c .before .if4 .left) h
+    refused-at (tableAt c) (c .before .before .rows .need) (rowAt c) (c .before .before .rows .inv) fault (c .before .if2 .left) h
 
 -- What the calls in a row tell of the table.
 known-told : (c : tie.After-is-known Inv-fields μ-fields Inv-rows μ-rows) → c .is-known .result ≡ known (numbersAt (tableAt (c .before)) (rowAt (c .before)) .kind)
@@ -77,7 +78,7 @@ row-of c = c .before .before .before .before .before .before
 all-fit : (c : At-limits) → rowPasses (rowAt (row-of c)) (numbersAt (tableAt (row-of c)) (rowAt (row-of c))) ≡ true
 all-fit c =
     row-passes _ _
-    (sym (known-told (c .before .before .before .before .before)) ∙ not-false _ (c .before .before .before .before .if5 .left))
+    (sym (known-told (c .before .before .before .before .before)) ∙ not-false _ (c .before .before .before .before .if3 .left))
     (λ f low high. c .before .before .fields .inv .2 f low (omega (arith, c .before .fields-test .left)))
 
 limits-told :
@@ -86,31 +87,26 @@ limits-told :
     ≡ limitsPass (numbersAt (tableAt (row-of c)) (rowAt (row-of c)) .a) (numbersAt (tableAt (row-of c)) (rowAt (row-of c)) .b)
 limits-told c = c .limits-pass .ensures ∙ ap (λ (row : Numbers). limitsPass (row .a) (row .b)) (row-of c .numbers-at .ensures)
 
+length-passes-requires : tie.Need-length-passes-requires Inv-fields μ-fields Inv-rows μ-rows
+length-passes-requires c κs = tt
+
 returns : tie.Need-returns Inv-fields μ-fields Inv-rows μ-rows
-unfolding lengthPasses
-returns c = refused-length _ (rw (ne-eqb _ _ (c .if1 .taken)))
-
-returns-2 : tie.Need-returns-2 Inv-fields μ-fields Inv-rows μ-rows
-unfolding lengthPasses
-returns-2 c = refused-length _ (rw (eq-eqb _ _ (c .before .if1 .left), lt-leb _ _ (c .if2 .taken)))
-
-returns-3 : tie.Need-returns-3 Inv-fields μ-fields Inv-rows μ-rows
-unfolding lengthPasses
-returns-3 c =
-    refused-length _ (rw (eq-eqb _ _ (c .before .before .if1 .left), le-leb _ _ (c .before .if2 .left), lt-leb _ _ (c .if3 .taken)))
+returns c = refused-length _ (sym (c .before .length-passes .ensures) ∙ not-true _ (c .if1 .taken))
 
 rows-holds : tie.Need-rows-holds Inv-fields μ-fields Inv-rows μ-rows
-unfolding lengthPasses offset firstFault
+unfolding offset firstFault
 rows-holds c =
+    let size : lengthPasses (length (c .before .before .before .args .table .now)) ≡ true = sym (c .before .length-passes .ensures) ∙ not-false _ (c .if1 .left) in
     record {
-      size = rw (eq-eqb _ _ (c .before .before .if1 .left), le-leb _ _ (c .before .if2 .left), le-leb _ _ (c .if3 .left));
+      size = size;
+      whole = length-told _ size;
       within = omega arith;
       so-far = refl;
       good = refl;
     }
 
-cast-t17 : tie.Need-cast-t17 Inv-fields μ-fields Inv-rows μ-rows
-cast-t17 c = omega arith
+cast-t15 : tie.Need-cast-t15 Inv-fields μ-fields Inv-rows μ-rows
+cast-t15 c = omega arith
 
 numbers-at-requires : tie.Need-numbers-at-requires Inv-fields μ-fields Inv-rows μ-rows
 numbers-at-requires c κs = tt
@@ -118,8 +114,8 @@ numbers-at-requires c κs = tt
 is-known-requires : tie.Need-is-known-requires Inv-fields μ-fields Inv-rows μ-rows
 is-known-requires c κs = tt
 
-cast-t19 : tie.Need-cast-t19 Inv-fields μ-fields Inv-rows μ-rows
-cast-t19 c = omega arith
+cast-t17 : tie.Need-cast-t17 Inv-fields μ-fields Inv-rows μ-rows
+cast-t17 c = omega arith
 
 line-of-requires : tie.Need-line-of-requires Inv-fields μ-fields Inv-rows μ-rows
 line-of-requires c κs = tt
@@ -145,8 +141,8 @@ use-of-requires c κs = tt
 may-be-requires : tie.Need-may-be-requires Inv-fields μ-fields Inv-rows μ-rows
 may-be-requires c κs = tt
 
-cast-t27 : tie.Need-cast-t27 Inv-fields μ-fields Inv-rows μ-rows
-cast-t27 c = omega arith
+cast-t25 : tie.Need-cast-t25 Inv-fields μ-fields Inv-rows μ-rows
+cast-t25 c = omega arith
 
 add-field : tie.Need-add-field Inv-fields μ-fields Inv-rows μ-rows
 add-field c = omega arith
@@ -160,7 +156,7 @@ fields-again c = (
   omega arith,
   λ f low high.
       ⊎-elim
-      (λ e. rw e (sym (fits-told (c .before)) ∙ not-false _ (c .if6 .left)))
+      (λ e. rw e (sym (fits-told (c .before)) ∙ not-false _ (c .if4 .left)))
       (λ lower. c .before .before .before .before .before .fields .inv .2 f low lower)
       (eq-or-lt-of-le (omega arith)),
 )
@@ -168,8 +164,8 @@ fields-again c = (
 limits-pass-requires : tie.Need-limits-pass-requires Inv-fields μ-fields Inv-rows μ-rows
 limits-pass-requires c κs = tt
 
-cast-t29 : tie.Need-cast-t29 Inv-fields μ-fields Inv-rows μ-rows
-cast-t29 c = omega arith
+cast-t27 : tie.Need-cast-t27 Inv-fields μ-fields Inv-rows μ-rows
+cast-t27 c = omega arith
 
 words-requires : tie.Need-words-requires Inv-fields μ-fields Inv-rows μ-rows
 words-requires c κs = tt
@@ -180,7 +176,7 @@ add-need c =
     omega (
       arith,
       offset-most _ _ (rows-good _ _ (reached .good)),
-      width-most (row-of (c .before .before) .numbers-at .result) (in-range _ _ (sym (c .before .before .limits-pass .ensures) ∙ not-false _ (c .before .if7 .left))),
+      width-most (row-of (c .before .before) .numbers-at .result) (in-range _ _ (sym (c .before .before .limits-pass .ensures) ∙ not-false _ (c .before .if5 .left))),
     )
 
 add-row : tie.Need-add-row Inv-fields μ-fields Inv-rows μ-rows
@@ -192,26 +188,26 @@ rows-less c = omega arith
 rows-again : tie.Need-rows-again Inv-fields μ-fields Inv-rows μ-rows
 rows-again c =
     reached-more _ _ _ (row-of (c .before .before) .before .before .rows .inv) _
-    (row-of (c .before .before) .before .if4 .left)
-    (fault-none _ _ (all-fit (c .before .before)) (sym (limits-told (c .before .before)) ∙ not-false _ (c .before .if7 .left)))
+    (row-of (c .before .before) .before .if2 .left)
+    (fault-none _ _ (all-fit (c .before .before)) (sym (limits-told (c .before .before)) ∙ not-false _ (c .before .if5 .left)))
     (c .words .ensures ∙ ap width (row-of (c .before .before) .numbers-at .ensures))
 
+returns-2 : tie.Need-returns-2 Inv-fields μ-fields Inv-rows μ-rows
+returns-2 c = passed-at _ _ _ (c .before .rows .inv) (c .if2 .taken)
+
+returns-3 : tie.Need-returns-3 Inv-fields μ-fields Inv-rows μ-rows
+returns-3 c = refused-here (c .before .before) _ (fault-row _ _ (row-unknown _ _ (sym (known-told (c .before)) ∙ not-true _ (c .if3 .taken))))
+
 returns-4 : tie.Need-returns-4 Inv-fields μ-fields Inv-rows μ-rows
-returns-4 c = passed-at _ _ _ (c .before .rows .inv) (c .if4 .taken)
-
-returns-5 : tie.Need-returns-5 Inv-fields μ-fields Inv-rows μ-rows
-returns-5 c = refused-here (c .before .before) _ (fault-row _ _ (row-unknown _ _ (sym (known-told (c .before)) ∙ not-true _ (c .if5 .taken))))
-
-returns-6 : tie.Need-returns-6 Inv-fields μ-fields Inv-rows μ-rows
-returns-6 c =
+returns-4 c =
     refused-here (c .before .before .before .before .before .before .before .before .before) _
     (fault-row _ _ (row-unfit _ _ _ (c .before .before .before .before .before .fields .inv .0) (c .before .before .before .before .fields-test .taken)
-    (sym (fits-told (c .before)) ∙ not-true _ (c .if6 .taken))))
+    (sym (fits-told (c .before)) ∙ not-true _ (c .if4 .taken))))
 
-returns-7 : tie.Need-returns-7 Inv-fields μ-fields Inv-rows μ-rows
-returns-7 c =
+returns-5 : tie.Need-returns-5 Inv-fields μ-fields Inv-rows μ-rows
+returns-5 c =
     refused-here (row-of (c .before)) _
-    (fault-limits _ _ (all-fit (c .before)) (sym (limits-told (c .before)) ∙ not-true _ (c .if7 .taken)))
+    (fault-limits _ _ (all-fit (c .before)) (sym (limits-told (c .before)) ∙ not-true _ (c .if5 .taken)))
 
 pub check-spec : {M : Type 1} → statement M
 check-spec =
@@ -221,14 +217,13 @@ check-spec =
     μ-fields
     Inv-rows
     μ-rows
+    length-passes-requires
     returns
-    returns-2
-    returns-3
     rows-holds
-    cast-t17
+    cast-t15
     numbers-at-requires
     is-known-requires
-    cast-t19
+    cast-t17
     line-of-requires
     fields-holds
     mul-number-at
@@ -237,18 +232,18 @@ check-spec =
     cast-may-be
     use-of-requires
     may-be-requires
-    cast-t27
+    cast-t25
     add-field
     fields-less
     fields-again
     limits-pass-requires
-    cast-t29
+    cast-t27
     words-requires
     add-need
     add-row
     rows-less
     rows-again
+    returns-2
+    returns-3
     returns-4
-    returns-5
-    returns-6
-    returns-7)
+    returns-5)

@@ -1,0 +1,11 @@
+-- Laws that belong to no one function.
+pub mod WordsLaws
+pub mod LayoutLaws
+pub mod ClipLaws
+pub mod JoinLaws
+pub mod CoverLaws
+pub mod UpdateLaws
+pub mod SoundTold
+pub mod SoundSteps
+pub mod SoundKept
+pub mod StretchKept

@@ -1,0 +1,47 @@
+-- The formula of a row is made of those of the rows that it names.
+use mathlib.Core.List.{List}
+use mathlib.Core.Logic.{⊎-elim}
+use mathlib.Core.Path.{_≡_, refl, sym, _∙_}
+use Prim.Native.Nat.{ℕ, zero, suc, _<_}
+use native.Mathlib.Nat.{eq-or-lt-of-le, le-of-suc-le-suc}
+use native.Mathlib.Omega.{arith}
+use borrow.Author.Tests.{eq-eqb, ne-eqb}
+use Rattle.meaning.specs.Formula.{Formula}
+use Rattle.rules.specs.Kinds.{truth, bit, negation, both, either, previous, Rule, plain, stretch}
+use Rattle.rules.specs.Rows.{numbersAt, ruleOf}
+use Rattle.rules.specs.RowFormula.{below, formula, madeOf, formulaOf}
+use Rattle.rules.specs.declared.numbers.Numbers.{Numbers}
+use Rattle.rules.proofs.KindsLaws.{Names}
+
+-- The value of a row does not depend on how many rows above it there are.
+pub below-at : {A : Type 0} (other : A) (make : ℕ → (ℕ → A) → A) (n r : ℕ) → r < n → below other make n r ≡ make r (below other make r)
+unfolding below
+below-at other make zero r lower = absurd (omega arith)
+below-at other make (suc n) r lower =
+    ⊎-elim
+    (λ e. rw (eq-eqb r n e, e))
+    (λ further. rw (ne-eqb r n (λ e. omega arith), below-at other make n r further))
+    (eq-or-lt-of-le (le-of-suc-le-suc lower))
+
+-- Two ways to give formulas to rows that agree on lower rows give a row that names only such the same formula.
+formula-same :
+    (f g : ℕ → Formula) (r : ℕ) (row : Numbers)
+    → ((x : ℕ) → x < r → f x ≡ g x)
+    → (rule : Rule)
+    → Names r row rule
+    → formula f row rule ≡ formula g row rule
+formula-same f g r row same (plain truth) names = refl
+formula-same f g r row same (plain bit) names = refl
+formula-same f g r row same (plain negation) names = rw (same _ names)
+formula-same f g r row same (plain both) names = rw (same _ (names .0), same _ (names .1))
+formula-same f g r row same (plain either) names = rw (same _ (names .0), same _ (names .1))
+formula-same f g r row same (plain previous) names = rw (same _ names)
+formula-same f g r row same (stretch keep feed) names = rw (same _ (names .0), same _ (names .1))
+
+pub formula-made : (table : List ℕ) (r : ℕ) → Names r (numbersAt table r) (ruleOf (numbersAt table r)) → formulaOf table r ≡ madeOf table r (formulaOf table)
+unfolding formulaOf
+formula-made table r names =
+    below-at Formula.truth (madeOf table) (suc r) r (omega arith)
+    ∙ formula-same _ _ r (numbersAt table r)
+    (λ x lower. below-at Formula.truth (madeOf table) r x lower ∙ sym (below-at Formula.truth (madeOf table) (suc x) x (omega arith)))
+    (ruleOf (numbersAt table r)) names
