@@ -7,5 +7,8 @@ pub mod CoverLaws
 pub mod UpdateLaws
 pub mod SoundTold
 pub mod SoundSteps
+pub mod ReadyLaws
 pub mod SoundKept
 pub mod StretchKept
+pub mod SoundnessLaws
+pub mod ReachLaws

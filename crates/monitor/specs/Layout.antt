@@ -13,7 +13,6 @@ use Rattle.monitor.specs.declared.stretch.Held.{Held}
 abbrev pub mark : ℕ
 mark = 18_446_744_073_709_551_615
 
--- The word in which an end is stored, and the end that a word stands for.
 abbrev pub wordOf : End → ℕ
 wordOf (upTo last) = last
 wordOf noEnd = mark

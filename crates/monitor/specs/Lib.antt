@@ -2,3 +2,9 @@
 pub mod Layout
 pub mod Stretch
 pub mod StretchSound
+pub mod Record
+pub mod Soundness
+pub mod Ready
+pub mod Start
+pub mod Event
+pub mod Step

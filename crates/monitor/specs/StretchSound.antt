@@ -10,8 +10,8 @@ use Rattle.meaning.specs.Sound.{SoundSpans}
 use Rattle.monitor.specs.declared.stretch.Held.{Held}
 use Rattle.monitor.specs.Layout.{endAt, spansHeld, Laid}
 
--- The words lay out as many spans as are held, the others are 0, and the spans are sound. The latest last is given as a word is stored: the
--- mark stands for no end.
+-- The words lay out as many spans as are held, no word of the stretch is left, and the spans are sound. The latest last is a word too: the mark
+-- stands for no end.
 pub record SoundStretch (words : List ℕ) (held : Held) (now latestFirst latestLast long : ℕ) : Type 0 where
   pub spans : List Span
   pub laid : Laid (length words) words held spans

@@ -1,6 +1,5 @@
 // The spans of one row in its own part of the lent store, its stretch: two words a span, packed rising from the part's start, unused words 0.
-// The part is lent by whoever calls; what else is held of the row is handed in and back. What an operation costs goes by the spans held, not by the
-// part's length.
+// The part is lent by whoever calls; what else is held of the row is handed in and back. No cost here passes the spans held.
 
 use crate::words::clear_words;
 use crate::words::move_down;

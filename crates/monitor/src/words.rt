@@ -1,4 +1,4 @@
-// Moves within a lent row of words, and a comparison with a sum that might wrap. Nothing here knows of spans.
+// Moves within a lent row of words, and sums of words that cannot wrap. Nothing here knows of spans.
 
 ghost use mathlib.Core.List.{_++_};
 ghost use mathlib.Core.Path.{_≡_};
@@ -7,7 +7,7 @@ ghost use lib.Dec.{leb};
 ghost use lib.ListN.{length, take, drop, replicate};
 ghost use Rattle.monitor.specs.StretchSound.{zeros?};
 
-// Whether `to` is at least `from + gap`; the sum is not computed, since it might wrap.
+// Whether `to` is at least `from + gap`; the sum itself might wrap.
 pub(crate) fn past_by(from: u64, gap: u64, to: u64) -> bool
     ensures { λ r. ⌜ r ≡ leb (from + gap) to ⌝ }
 {

@@ -1,0 +1,25 @@
+-- `monitor::reach::length_of` meets its contract, by the test for no end. Assumes nothing.
+use native.Mathlib.Omega.{arith}
+use borrow.Author.Needs.{needs}
+use borrow.Author.Tests.{eq-eqb, ne-eqb}
+use Rattle.meaning.specs.Interval.{endOf}
+use Rattle.monitor.proofs.reach.length_of.Statement.{statement}
+use Rattle.monitor.proofs.reach.length_of.Tie as tie
+
+returns : tie.Need-returns
+unfolding endOf
+returns c = rw (eq-eqb _ _ (c .if1 .taken))
+
+returns-2 : tie.Need-returns-2
+unfolding endOf
+returns-2 c = rw (ne-eqb _ _ (c .before .if1 .left)) (omega arith)
+
+wide-requires : tie.Need-wide-requires
+wide-requires c κs = search needs
+
+returns-3 : tie.Need-returns-3
+unfolding endOf
+returns-3 c = rw (ne-eqb _ _ (c .before .before .if1 .left), c .wide .ensures)
+
+pub length-of-spec : {M : Type 1} → statement M
+length-of-spec = tie.close (tie.spec returns returns-2 wide-requires returns-3)

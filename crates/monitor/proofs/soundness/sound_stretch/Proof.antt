@@ -1,0 +1,39 @@
+-- `monitor::soundness::sound_stretch` meets its contract: what it calls, one after the other. Assumes nothing.
+use borrow.Author.Needs.{needs}
+use Rattle.monitor.proofs.soundness.sound_stretch.Statement.{statement}
+use Rattle.monitor.proofs.soundness.sound_stretch.Tie as tie
+
+wide-requires : tie.Need-wide-requires
+wide-requires c κs = search needs
+
+add-first : tie.Need-add-first
+add-first c = search needs
+
+last-reached-requires : tie.Need-last-reached-requires
+last-reached-requires c κs = search needs
+
+length-of-requires : tie.Need-length-of-requires
+length-of-requires c κs = search needs
+
+sound-requires : tie.Need-sound-requires
+sound-requires c κs = search needs
+
+returns : tie.Need-returns
+returns c =
+    rw (
+      c .sound .ensures,
+      c .before .length-of .ensures,
+      c .before .before .last-reached .ensures,
+      c .before .before .before .wide .ensures,
+    )
+
+pub sound-stretch-spec : {M : Type 1} → statement M
+sound-stretch-spec =
+    tie.close
+    (tie.spec
+    wide-requires
+    add-first
+    last-reached-requires
+    length-of-requires
+    sound-requires
+    returns)

@@ -1,0 +1,36 @@
+-- A start (document 01, "Refusal numbers"): "A refused start gives an all-zero record, row count 0, store untouched. A good start writes 0 to
+-- every word of the need."
+use mathlib.Core.List.{List, _++_}
+use mathlib.Core.Option.{Option, none, some}
+use Prim.Native.Nat.{ℕ}
+use lib.ListN.{length, drop, replicate}
+use Rattle.rules.specs.Refusals.{Refused, refused}
+use Rattle.rules.specs.Table.{Said, passed, refusedBy}
+use Rattle.monitor.specs.declared.record.Record.{Record}
+use Rattle.monitor.specs.declared.answer.StartAnswer.{StartAnswer}
+use Rattle.monitor.specs.declared.answer.StartAnswer.the-variants as StartAnswer
+use Rattle.monitor.specs.declared.answer.Started.{Started}
+use Rattle.monitor.specs.Record.{nothingSeen}
+use Rattle.monitor.specs.Ready.{readyOf}
+
+-- What a start gives: its refusal, if any, the record, and the store at the end.
+pub record Beginning : Type 0 where
+  pub refusal : Option Refused
+  pub given : Record
+  pub store : List ℕ
+
+abbrev pub begin : List ℕ → Said → Beginning
+begin store (passed rows need) =
+    record { refusal = none; given = nothingSeen rows; store = replicate need 0 ++ drop need store }
+begin store (refusedBy fault) = record { refusal = some fault; given = nothingSeen 0; store = store }
+
+unfoldable pub startOf : List ℕ → List ℕ → Beginning
+startOf table store = begin store (readyOf table (length store))
+
+-- What an answer says, with the store at exit.
+abbrev pub startRefusal : StartAnswer → Option Refused
+startRefusal StartAnswer.Good = none
+startRefusal (StartAnswer.Refused refusal) = some (refused refusal)
+
+abbrev pub saidStart : Started → List ℕ → Beginning
+saidStart started store = record { refusal = startRefusal (started .answer); given = started .record; store = store }

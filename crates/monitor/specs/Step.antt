@@ -1,0 +1,113 @@
+-- One call, an event or a frame: what it answers and what it leaves, for every input (document 01, "Refusal numbers" and "Lines from the board").
+use mathlib.Core.Bool.{Bool, true, false, cond}
+use mathlib.Core.List.{List}
+use mathlib.Core.Option.{Option, none, some}
+use Prim.Native.Nat.{ℕ, _-_}
+use lib.Dec.{leb}
+use lib.ListN.{length}
+use Rattle.meaning.specs.FrameTime.{frameTime}
+use Rattle.rules.specs.Rows.{rowsOf}
+use Rattle.rules.specs.Refusals.{Refused, refused}
+use Rattle.rules.specs.declared.refusal.Refusal.{Refusal}
+use Rattle.rules.specs.declared.refusal.Refusal.the-variants.{Earlier, Late, Record}
+use Rattle.monitor.specs.declared.record.Record as Kept
+use Rattle.monitor.specs.declared.answer.Answer.{Answer}
+use Rattle.monitor.specs.declared.answer.Answer.the-variants as Answer
+use Rattle.monitor.specs.declared.answer.Judged.{Judged}
+use Rattle.monitor.specs.declared.answer.Timed.{Timed}
+use Rattle.monitor.specs.declared.answer.Timed.the-variants as Timed
+use Rattle.monitor.specs.Record.{timeLimit, truthAt}
+use Rattle.monitor.specs.Soundness.{sound?}
+use Rattle.monitor.specs.Ready.{readyOf, refusalIn}
+use Rattle.monitor.specs.Event.{Moment, storeAfter, recordAfter}
+
+-- What is judged by: today the table alone.
+pub record Setup : Type 0 where
+  pub table : List ℕ
+
+-- An event has its time; a frame has a counter, and the time that this shows since the last event.
+pub data Call : Type 0 where
+  event : (time mask : ℕ) → Call
+  frame : (counter mask : ℕ) → Call
+
+abbrev pub timeOf : Kept.Record → Call → ℕ
+timeOf found (event time mask) = time
+timeOf found (frame counter mask) = frameTime (found .time) counter
+
+abbrev pub maskOf : Call → ℕ
+maskOf (event time mask) = mask
+maskOf (frame counter mask) = mask
+
+-- The first refusal of two decides. A condition that is not met is its refusal.
+infixr 30 _orElse_
+abbrev pub _orElse_ : Option Refused → Option Refused → Option Refused
+none orElse next = next
+some fault orElse next = some fault
+
+abbrev pub unless : Bool → Refusal → Option Refused
+unless true refusal = none
+unless false refusal = some (refused refusal)
+
+-- "an event uses 1 to 4, then 7, 6, 5": "record not sound", "time over 281,474,976,710,655", "time below the last event's".
+unfoldable pub refusalOf : Setup → List ℕ → Kept.Record → Call → Option Refused
+refusalOf setup store found call =
+    refusalIn (readyOf (setup .table) (length store))
+    orElse unless (sound? (setup .table) store found) Record
+    orElse unless (leb (timeOf found call) timeLimit) Late
+    orElse unless (leb (found .time) (timeOf found call)) Earlier
+
+-- The call as a moment, for the one-event rules.
+abbrev pub momentOf : Setup → List ℕ → Kept.Record → Call → Moment
+momentOf setup store found call =
+    record { table = setup .table; store = store; found = found; time = timeOf found call; mask = maskOf call }
+
+-- The record and the store after an accepted call.
+abbrev pub afterOf : Moment → Kept.Record
+afterOf m = recordAfter m
+
+abbrev pub storeOf : Moment → List ℕ
+storeOf m = storeAfter m (rowsOf (m .table))
+
+-- "the last is the formula judged".
+abbrev pub verdictOf : Setup → List Bool → Bool
+verdictOf setup truths = truthAt truths (rowsOf (setup .table) - 1)
+
+-- "the answer is either a verdict or a numbered refusal", and the record and the store that stand beside it.
+pub data Reply : Type 0 where
+  verdict : Bool → Reply
+  refusal : Refused → Reply
+
+pub record Outcome : Type 0 where
+  pub reply : Reply
+  pub left : Kept.Record
+  pub store : List ℕ
+
+-- "refusal gives back the record given and leaves the store".
+abbrev pub outcome : Setup → List ℕ → Kept.Record → Moment → Option Refused → Outcome
+outcome setup store found m (some fault) = record { reply = refusal fault; left = found; store = store }
+outcome setup store found m none =
+    record { reply = verdict (verdictOf setup (afterOf m .truths)); left = afterOf m; store = storeOf m }
+
+unfoldable pub stepOf : Setup → List ℕ → Kept.Record → Call → Outcome
+stepOf setup store found call =
+    outcome setup store found (momentOf setup store found call) (refusalOf setup store found call)
+
+-- What an answer says, with the record beside it and the store at exit.
+abbrev pub said : Answer → Reply
+said (Answer.Verdict holds) = verdict holds
+said (Answer.Refused fault) = refusal (refused fault)
+
+abbrev pub saidStep : Judged → List ℕ → Outcome
+saidStep judged store = record { reply = said (judged .answer); left = judged .record; store = store }
+
+-- "Asked for alone, with a last time over 281,474,976,710,655, the time is refused 6."
+pub data TimeReply : Type 0 where
+  at : ℕ → TimeReply
+  notAt : Refused → TimeReply
+
+unfoldable pub frameTimeOf : ℕ → ℕ → TimeReply
+frameTimeOf last counter = cond (leb last timeLimit) (at (frameTime last counter)) (notAt (refused Late))
+
+abbrev pub saidTime : Timed → TimeReply
+saidTime (Timed.At time) = at time
+saidTime (Timed.Refused fault) = notAt (refused fault)

@@ -1,0 +1,31 @@
+// What the monitor's calls answer.
+
+use crate::record::Record;
+use rules::refusal::Refusal;
+
+// The answer to an event: the verdict, or a refusal with its number and row.
+pub enum Answer {
+    Verdict(bool),
+    Refused(Refusal),
+}
+
+// The answer with the record beside it.
+pub struct Judged {
+    pub answer: Answer,
+    pub record: Record,
+}
+
+pub enum StartAnswer {
+    Good,
+    Refused(Refusal),
+}
+
+pub struct Started {
+    pub answer: StartAnswer,
+    pub record: Record,
+}
+
+pub enum Timed {
+    At(u64),
+    Refused(Refusal),
+}

@@ -1,0 +1,40 @@
+// The time of a frame (document 01, "Lines from the board").
+
+use crate::answer::Timed;
+use rules::refusal::Refusal;
+ghost use mathlib.Core.Path.{_≡_};
+ghost use Prim.Native.Nat.{_≤_};
+ghost use Rattle.meaning.specs.FrameTime.{frameTime};
+ghost use Rattle.monitor.specs.Record.{timeLimit};
+ghost use Rattle.monitor.specs.Step.{frameTimeOf, saidTime};
+
+// "281,474,976,710,655": no accepted time is over this.
+pub const TIME_LIMIT: u64 = 281_474_976_710_655;
+
+// The board's counter has sixteen bits.
+const TURN: u64 = 65_536;
+
+// The last time, and the gap that the counter shows since. Only last is judged: the time may pass the limit, and the event then refuses it.
+pub fn frame_time(last: u64, counter: u16) -> Timed
+    ensures { λ r. ⌜ saidTime r ≡ frameTimeOf last counter ⌝ }
+{
+    if TIME_LIMIT < last {
+        return Timed::Refused(Refusal::Late);
+    }
+    Timed::At(time_after(last, counter))
+}
+
+// The low sixteen bits of last are subtracted from the counter with wrap.
+pub(crate) fn time_after(last: u64, counter: u16) -> u64
+    requires { ⌜ last ≤ timeLimit ⌝ }
+    ensures { λ r. ⌜ r ≡ frameTime last counter ⌝ }
+{
+    let low = (last % TURN) as u16;
+    last + wide(std::num::wrapping_sub_u16(counter, low))
+}
+
+fn wide(gap: u16) -> u64
+    ensures { λ r. ⌜ r ≡ gap ⌝ }
+{
+    gap as u64
+}

@@ -1,0 +1,64 @@
+// What a row's limits a and b say of times. No sum here can wrap: a time is at most the limit, or the sum is not made.
+
+use crate::stretch::NO_END;
+use crate::words::past_by;
+use rules::limits;
+ghost use mathlib.Core.Path.{_≡_};
+ghost use Prim.Native.Nat.{_≤_};
+ghost use Rattle.meaning.specs.Interval.{endOf, _+End_};
+ghost use Rattle.meaning.specs.Computed.{within?, notPast?};
+ghost use Rattle.meaning.specs.Sound.{lengthOf};
+ghost use Rattle.monitor.specs.Record.{timeLimit};
+ghost use Rattle.monitor.specs.Layout.{wordOf};
+
+// The last number that an event at the time reaches, as a word: the mark where there is no end.
+pub(crate) fn last_reached(time: u64, b: u32) -> u64
+    requires { ⌜ time ≤ timeLimit ⌝ }
+    ensures { λ r. ⌜ r ≡ wordOf (time +End endOf b) ⌝ }
+{
+    if b == limits::NO_END {
+        return NO_END;
+    }
+    time + wide(b)
+}
+
+// b less a, 0 without end.
+pub(crate) fn length_of(a: u32, b: u32) -> u64
+    ensures { λ r. ⌜ r ≡ lengthOf a (endOf b) ⌝ }
+{
+    if b == limits::NO_END {
+        return 0;
+    }
+    if b < a {
+        return 0;
+    }
+    wide(b - a)
+}
+
+// Whether the whole gap from the former time to the time is in [a,b].
+pub(crate) fn within(a: u32, b: u32, former: u64, time: u64) -> bool
+    ensures { λ r. ⌜ r ≡ within? a (endOf b) former time ⌝ }
+{
+    if past_by(former, wide(a), time) {
+        return not_past(b, former, time);
+    }
+    false
+}
+
+fn not_past(b: u32, former: u64, time: u64) -> bool
+    ensures { λ r. ⌜ r ≡ notPast? time (former +End endOf b) ⌝ }
+{
+    if b == limits::NO_END {
+        return true;
+    }
+    if time <= former {
+        return true;
+    }
+    time - former <= wide(b)
+}
+
+pub(crate) fn wide(number: u32) -> u64
+    ensures { λ r. ⌜ r ≡ number ⌝ }
+{
+    number as u64
+}

@@ -1,0 +1,29 @@
+// What the monitor keeps of the events so far, beside the store.
+
+use rules::limits::ROW_LIMIT;
+ghost use mathlib.Core.Path.{_≡_};
+ghost use Rattle.monitor.specs.Record.{nothingSeen};
+
+pub struct Record {
+    // Whether an event was seen, and its time.
+    pub seen: bool,
+    pub time: u64,
+    // The table's row count.
+    pub rows: u32,
+    // Each row's truth at that event, and how many spans its stretch holds.
+    pub truths: [bool; ROW_LIMIT],
+    pub counts: [u32; ROW_LIMIT],
+}
+
+// A record with nothing seen, of so many rows; all zero where there are none.
+pub(crate) fn nothing_seen(rows: u32) -> Record
+    ensures { λ r. ⌜ r ≡ nothingSeen rows ⌝ }
+{
+    Record {
+        seen: false,
+        time: 0,
+        rows,
+        truths: [false; ROW_LIMIT],
+        counts: [0; ROW_LIMIT],
+    }
+}

@@ -1,0 +1,30 @@
+// The start: an empty record, and zeros in the words of the need.
+
+use crate::answer::StartAnswer;
+use crate::answer::Started;
+use crate::ready::ready;
+use crate::record::nothing_seen;
+use crate::words::clear_words;
+use rules::table::Checked;
+ghost use mathlib.Core.Path.{_≡_};
+ghost use Rattle.monitor.specs.Start.{startOf, saidStart};
+
+// A record with nothing seen, or a refusal 1 to 4 and an all-zero record. A good start writes 0 to every word of the need and no other.
+pub fn start(table: &[u32], store: &mut [u64]) -> Started
+    ensures { λ r. ⌜ saidStart r (now (store .exit)) ≡ startOf (now (table .entry)) (now (store .entry)) ⌝ }
+{
+    let checked = ready(table, store.len());
+    match checked {
+        Checked::Refused(refusal) => Started {
+            answer: StartAnswer::Refused(refusal),
+            record: nothing_seen(0),
+        },
+        Checked::Passed { rows, need } => {
+            clear_words(store, 0, need as usize);
+            Started {
+                answer: StartAnswer::Good,
+                record: nothing_seen(rows),
+            }
+        }
+    }
+}

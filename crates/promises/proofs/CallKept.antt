@@ -1,0 +1,114 @@
+-- One call, where the invariant holds. A kept call is accepted and the invariant holds of the longer history; any other is refused, 6 over the limit and
+-- else 5, and changes nothing.
+use mathlib.Core.Bool.{Bool, true, false, cond, _&&_}
+use mathlib.Core.List.{List, _∷_}
+use mathlib.Core.Logic.{_⊎_, inl, inr}
+use mathlib.Core.Option.{none}
+use mathlib.Core.Path.{_≡_, refl, ap}
+use Prim.Native.Nat.{ℕ, _-_, _≤_, _<_}
+use native.Mathlib.Omega.{arith}
+use lib.Dec.{leb}
+use Rattle.meaning.specs.FrameTime.{frameTime}
+use Rattle.meaning.specs.History.{History, lastTime}
+use Rattle.meaning.proofs.SpansLaws.{by-leb}
+use Rattle.rules.specs.Rows.{rowsOf}
+use Rattle.rules.specs.Refusals.{Refused, refused}
+use Rattle.rules.specs.declared.refusal.Refusal.the-variants.{Earlier, Late}
+use Rattle.monitor.specs.Record.{timeLimit, truthAt}
+use Rattle.monitor.specs.Step.{Call, event, frame, timeOf, maskOf, refusalOf, verdict, refusal, stepOf}
+use Rattle.promises.specs.Stream.{State, setupOf, call, next, callTime, Keeps, keeps?, eventOf}
+use Rattle.promises.specs.Invariant.{Invariant}
+use Rattle.promises.specs.Refusing.{six, five}
+use Rattle.promises.proofs.Refusing.{call-passes, refused-exactly, refusal-changes-nothing}
+use Rattle.promises.proofs.EventKept.{event-kept}
+
+-- By cases: the call is kept, or its time is over the limit, or it is below the last.
+keeps-cases : (P : Bool → Type 0) (last : ℕ) (c : Call)
+    → (Keeps last c → P true)
+    → (timeLimit < callTime last c → P false)
+    → (callTime last c ≤ timeLimit → callTime last c < last → P false)
+    → P (keeps? last c)
+keeps-cases P last c kept late earlier =
+    by-leb (λ within. P (within && leb last (callTime last c))) (callTime last c) timeLimit
+    (λ within. by-leb P last (callTime last c) (λ risen. kept (record { within = within; risen = risen })) (earlier within))
+    late
+
+module _ {table : List ℕ} {h : History} {clock : ℕ} {s : State} (inv : Invariant table h clock s) (c : Call) where
+  -- The time of the call is the stream's.
+  time-same : timeOf (s .found) c ≡ callTime clock c
+  time-same = go c
+    where
+      go : (made : Call) → timeOf (s .found) made ≡ callTime clock made
+      go (event time mask) = refl
+      go (frame counter mask) = ap (λ (last : ℕ). frameTime last counter) (inv .time)
+
+  accepted : Keeps clock c → refusalOf (setupOf table) (s .store) (s .found) c ≡ none
+  accepted keeps =
+      call-passes (setupOf table) (s .store) (s .found) c
+      (record {
+        ready = inv .ready;
+        sound = inv .sound;
+        early = omega (arith, time-same, keeps .within);
+        risen = omega (arith, time-same, inv .time, keeps .risen);
+      })
+
+  -- What is answered, and that a refused call leaves the state.
+  pub kept-reply : Keeps clock c → call table s c .reply ≡ verdict (truthAt (call table s c .left .truths) (rowsOf table - 1))
+  unfolding stepOf
+  kept-reply keeps = rw (accepted keeps)
+
+  pub late-reply : timeLimit < callTime clock c → call table s c .reply ≡ refusal (refused Late)
+  late-reply over =
+      refused-exactly .call (setupOf table) (s .store) (s .found) c (refused Late) .1
+      (six (inv .ready) (inv .sound) (omega (arith, time-same)))
+
+  pub earlier-reply : callTime clock c ≤ timeLimit → callTime clock c < clock → call table s c .reply ≡ refusal (refused Earlier)
+  earlier-reply within below =
+      refused-exactly .call (setupOf table) (s .store) (s .found) c (refused Earlier) .1
+      (five (inv .ready) (inv .sound) (omega (arith, time-same)) (omega (arith, time-same, inv .time)))
+
+  refused-same : {fault : Refused} → call table s c .reply ≡ refusal fault → next table s c ≡ s
+  refused-same {fault} refused =
+      let (left, words) = refusal-changes-nothing .call (setupOf table) (s .store) (s .found) c fault refused in rw (left, words)
+
+  -- A kept call keeps the invariant.
+  pub call-kept : Keeps clock c → Invariant table (eventOf clock c ∷ h) (callTime clock c) (next table s c)
+  unfolding stepOf
+  call-kept keeps =
+      rw (accepted keeps, time-same)
+      (event-kept inv (callTime clock c) (maskOf c) (keeps .risen) (keeps .within))
+
+  -- By cases on what was answered: a verdict is given to kept calls alone, and no other refusal than 6 and 5.
+  not-both : {A : Type 0} {holds : Bool} {fault : Refused} → call table s c .reply ≡ verdict holds → call table s c .reply ≡ refusal fault → A
+  not-both judged refused = let clash : _≡_ {A = ℕ} 0 1 = cc in absurd (omega arith)
+
+  pub only-kept : (holds : Bool) → call table s c .reply ≡ verdict holds → Keeps clock c
+  only-kept holds judged =
+      keeps-cases (λ _. Keeps clock c) clock c
+      (λ keeps. keeps)
+      (λ over. not-both judged (late-reply over))
+      (λ within below. not-both judged (earlier-reply within below))
+
+  pub refused-only : (fault : Refused) → call table s c .reply ≡ refusal fault → (fault ≡ refused Late) ⊎ (fault ≡ refused Earlier)
+  refused-only fault said =
+      keeps-cases (λ _. (fault ≡ refused Late) ⊎ (fault ≡ refused Earlier)) clock c
+      (λ keeps. not-both (kept-reply keeps) said)
+      (λ over. let reply = late-reply over in inl (cc))
+      (λ within below. let reply = earlier-reply within below in inr (cc))
+
+-- Any call keeps the invariant, of the history with its event where it is kept.
+pub next-kept : (table : List ℕ) (h : History) (s : State)
+    → Invariant table h (lastTime h) s
+    → (c : Call)
+    → (events : History)
+    → events ≡ cond (keeps? (lastTime h) c) (eventOf (lastTime h) c ∷ h) h
+    → Invariant table events (lastTime events) (next table s c)
+next-kept table h s inv c events same =
+    rw same
+    (keeps-cases
+    (λ keeps. Invariant table (cond keeps (eventOf (lastTime h) c ∷ h) h) (lastTime (cond keeps (eventOf (lastTime h) c ∷ h) h)) (next table s c))
+    (lastTime h)
+    c
+    (call-kept inv c)
+    (λ over. rw (refused-same inv c (late-reply inv c over)) inv)
+    (λ within below. rw (refused-same inv c (earlier-reply inv c within below)) inv))

@@ -1,0 +1,210 @@
+-- One kept event keeps the invariant. By induction over the rows: each row's truth tells its formula at the event, from those of the lower rows, and its
+-- spans go from the runs before to the runs after.
+use mathlib.Core.Bool.{Bool, _&&_}
+use mathlib.Core.List.{List, [], _∷_}
+use mathlib.Core.Logic.{⊎-elim}
+use mathlib.Core.Path.{_≡_, refl, _∙_}
+use Prim.Native.Nat.{ℕ, zero, suc, _≤_, _<_}
+use native.Mathlib.Nat.{eq-or-lt-of-le, le-of-suc-le-suc}
+use native.Mathlib.Omega.{arith}
+use lib.ListN.{length}
+use Rattle.meaning.specs.Interval.{End, upTo, noEnd, endOf, _≤End_}
+use Rattle.meaning.specs.History.{Event, History, lastTime}
+use Rattle.meaning.specs.Formula.{Formula, Holds}
+use Rattle.meaning.specs.Computed.{notPast?, within?}
+use Rattle.meaning.specs.Spans.{Span, _to_, In}
+use Rattle.meaning.proofs.Tells.{Tells, tells-leb, tells-eqb, tells-not, tells-and, tells-or, tells-same}
+use Rattle.meaning.proofs.FormulaLaws.{tells-within}
+use Rattle.meaning.proofs.HistoryLaws.{NoLater, no-later-on}
+use Rattle.meaning.proofs.RunsLaws.{runs-event, runs-tell}
+use Rattle.rules.specs.Kinds.{Plain, truth, bit, negation, both, either, previous, Rule, plain, stretch}
+use Rattle.rules.specs.Rows.{rowsOf, numbersAt, ruleOf, named}
+use Rattle.rules.specs.Stretches.{needOf}
+use Rattle.rules.specs.RowFormula.{formula, formulaOf}
+use Rattle.rules.specs.declared.numbers.Numbers.{Numbers}
+use Rattle.rules.proofs.KindsLaws.{PlainNames, Names}
+use Rattle.rules.proofs.PassedLaws.{passed-formula}
+use Rattle.monitor.specs.Record.{timeLimit, truthAt}
+use Rattle.monitor.specs.Stretch.{covered}
+use Rattle.monitor.specs.Event.{Moment, spansBy, spansAfter, truthBy, truthOf, truthsAfter, spansNow, storeAfter, recordAfter}
+use Rattle.promises.specs.Stream.{State}
+use Rattle.promises.specs.Spans.{NamedHolds}
+use Rattle.promises.specs.Invariant.{anySeen, Says, Spanned, RowFollows, Invariant}
+use Rattle.promises.proofs.RowsAfter.{Room, truth-set, length-store, row-laid}
+use Rattle.promises.proofs.RangeLaws.{range-order}
+use Rattle.promises.proofs.SoundAfter.{room-after}
+use Rattle.promises.proofs.SoundIsKept.{sound-after, sized-after}
+use Rattle.promises.proofs.InvariantLaws.{passes, spans-found}
+
+-- The test whether a time lies in a span tells so.
+not-past-told : (n : ℕ) (end : End) → Tells (notPast? n end) (n ≤End end)
+not-past-told n (upTo last) = tells-leb n last
+not-past-told n noEnd = record { sound = λ _. tt; complete = λ _. tt }
+
+covered-told : (now : ℕ) (S : List Span) → Tells (covered now S) (In now S)
+unfolding covered In
+covered-told now [] = record { sound = λ none. absurd none; complete = λ none. absurd none }
+covered-told now ((first to last) ∷ S) = tells-or (tells-and (tells-leb first now) (not-past-told now last)) (covered-told now S)
+
+-- Kind 5: the truth and the time found are those of the event before.
+previous-told : (φ : Formula) (a : ℕ) (b : End) (e : Event) (h : History) (seen was : Bool) (last : ℕ)
+    → seen ≡ anySeen h
+    → last ≡ lastTime h
+    → Says h was φ
+    → Tells (seen && was && within? a b last (e .time)) (Holds (Formula.previous φ a b) (e ∷ h))
+unfolding Holds
+previous-told φ a b e [] seen was last unseen time says =
+    rw unseen (record { sound = λ none. absurd none; complete = λ holds. omega (arith, holds .0) })
+previous-told φ a b e (d ∷ h) seen was last known time says =
+    let before : Tells was (Holds φ (d ∷ h)) = record { sound = says .0; complete = says .1 } in
+    rw (known, time)
+    (tells-same
+    (λ parts. (omega arith, parts .0, parts .1))
+    (λ parts. (parts .1, parts .2))
+    (tells-and before (tells-within a b (d .time) (e .time))))
+
+-- One row at an event, from the truths of the lower rows at it and at the event before.
+module _ (m : Moment) (h : History) (of : ℕ → Formula) (r : ℕ) (row : Numbers) (truths : List Bool) where
+  abbrev event : Event
+  event = record { time = m .time; mask = m .mask }
+
+  record Lower : Type 0 where
+    seen : m .found .seen ≡ anySeen h
+    last : m .found .time ≡ lastTime h
+    before : (x : ℕ) → x < r → Says h (truthAt (m .found .truths) x) (of x)
+    at : (x : ℕ) → x < r → Tells (truthAt truths x) (Holds (of x) (event ∷ h))
+
+  plain-told : (says : Plain) (after : List Span)
+      → Lower
+      → PlainNames r row says
+      → Tells (truthBy m truths after row (plain says)) (Holds (formula of row (plain says)) (event ∷ h))
+  unfolding Holds
+  plain-told truth after lower names = record { sound = λ _. tt; complete = λ _. tt }
+  plain-told bit after lower names = tells-eqb _ 1
+  plain-told negation after lower names = tells-not (lower .at (row .x) names)
+  plain-told both after lower names = tells-and (lower .at (row .x) (names .0)) (lower .at (row .y) (names .1))
+  plain-told either after lower names = tells-or (lower .at (row .x) (names .0)) (lower .at (row .y) (names .1))
+  plain-told previous after lower names =
+      previous-told (of (row .x)) (row .a) (endOf (row .b)) event h (m .found .seen) (truthAt (m .found .truths) (row .x)) (m .found .time)
+      (lower .seen) (lower .last) (lower .before (row .x) names)
+
+-- An event not before the clock and within the limit, where the invariant holds.
+module _ {table : List ℕ} {h : History} {clock : ℕ} {s : State} (inv : Invariant table h clock s) (time mask : ℕ) (later : clock ≤ time) (within : time ≤ timeLimit) where
+  abbrev m : Moment
+  m = record { table = table; store = s .store; found = s .found; time = time; mask = mask }
+
+  abbrev longer : History
+  longer = record { time = time; mask = mask } ∷ h
+
+  abbrev RowTold : ℕ → Type 0
+  RowTold row = Tells (truthOf m row (truthsAfter m row)) (Holds (formulaOf table row) longer)
+
+  longer-ordered : NoLater time longer
+  unfolding NoLater
+  longer-ordered = (omega arith, no-later-on clock time h later (inv .ordered))
+
+  -- What the truths after the rows below n tell.
+  truths-told : (n : ℕ)
+      → n ≤ rowsOf table
+      → ((row : ℕ) → row < n → RowTold row)
+      → (row : ℕ)
+      → row < n
+      → Tells (truthAt (truthsAfter m n) row) (Holds (formulaOf table row) longer)
+  truths-told n few told row below =
+      let least : rowsOf table ≤ length (s .found .truths) = omega (arith, inv .sized .truths, passes inv .few-rows) in
+      rw (truth-set m n row below (omega arith)) (told row below)
+
+  module _ (row : ℕ) (known : row < rowsOf table) (told : (x : ℕ) → x < row → RowTold x) where
+    abbrev numbers : Numbers
+    numbers = numbersAt table row
+
+    lower : Lower m h (formulaOf table) row numbers (truthsAfter m row)
+    lower =
+        record {
+          seen = inv .seen;
+          last = inv .time ∙ inv .now;
+          before = λ x below. inv .follows x (omega arith) .says;
+          at = truths-told row (omega arith) told;
+        }
+
+    spans-by : (rule : Rule) (S : List Span)
+        → Names row numbers rule
+        → Spanned table row h clock rule S
+        → Spanned table row longer time rule (spansBy m (truthsAfter m row) S numbers rule)
+    spans-by (plain says) S names spanned = refl
+    spans-by (stretch keep feed) S names spanned =
+        runs-event (NamedHolds table row keep) (NamedHolds table row feed) (numbers .a) (endOf (numbers .b))
+        (range-order (numbers .a) (numbers .b) (passes inv .good row known .limits))
+        (record { time = time; mask = mask }) h (no-later-on clock time h later (inv .ordered))
+        (truthAt (truthsAfter m row) (named keep numbers)) (truthAt (truthsAfter m row) (named feed numbers)) clock S
+        (lower .at (named keep numbers) (names .0)) (lower .at (named feed numbers) (names .1)) later spanned
+
+    truth-by : (rule : Rule) (after : List Span)
+        → Names row numbers rule
+        → Spanned table row longer time rule after
+        → Tells (truthBy m (truthsAfter m row) after numbers rule) (Holds (formula (formulaOf table) numbers rule) longer)
+    truth-by (plain says) after names spanned = plain-told m h (formulaOf table) row numbers (truthsAfter m row) says after lower names
+    truth-by (stretch keep feed) after names spanned =
+        let means = runs-tell (formulaOf table (named keep numbers)) (formulaOf table (named feed numbers)) (numbers .a) (endOf (numbers .b)) longer after spanned in
+        tells-same (means .0) (means .1) (covered-told time after)
+
+    spans-follow : Spanned table row longer time (ruleOf numbers) (spansNow m row)
+    unfolding spansAfter
+    spans-follow =
+        rw (spans-found inv row known)
+        (spans-by (ruleOf numbers) (inv .follows row known .spans) (passes inv .good row known .names) (inv .follows row known .spanned))
+
+    truth-follows : RowTold row
+    unfolding truthOf
+    truth-follows =
+        rw (passed-formula table (rowsOf table) (needOf table) row (passes inv) known)
+        (truth-by (ruleOf numbers) (spansNow m row) (passes inv .good row known .names) spans-follow)
+
+  rows-told : (n : ℕ) → n ≤ rowsOf table → (row : ℕ) → row < n → RowTold row
+  rows-told zero few row below = absurd (omega arith)
+  rows-told (suc n) few row below =
+      let before : (x : ℕ) → x < n → RowTold x = rows-told n (omega arith) in
+      ⊎-elim
+      (λ e. rw e (truth-follows n (omega arith) before))
+      (λ lower. before row lower)
+      (eq-or-lt-of-le (le-of-suc-le-suc below))
+
+  spans-told : (row : ℕ) → row < rowsOf table → Spanned table row longer time (ruleOf (numbersAt table row)) (spansNow m row)
+  spans-told row known = spans-follow row known (rows-told row (omega arith))
+
+  risen : s .found .time ≤ time
+  risen = omega (arith, inv .time)
+
+  spans-fit : Room m (rowsOf table)
+  spans-fit = room-after m (inv .ready) (inv .sound) risen
+
+  abbrev pub stateAfter : State
+  stateAfter = record { found = recordAfter m; store = storeAfter m (rowsOf table) }
+
+  row-follows : (row : ℕ) → row < rowsOf table → RowFollows table row longer time stateAfter
+  unfolding recordAfter
+  row-follows row known =
+      let counts : row < length (s .found .counts) = omega (arith, inv .sized .counts, passes inv .few-rows) in
+      let told : Tells (truthAt (truthsAfter m (rowsOf table)) row) (Holds (formulaOf table row) longer) =
+      truths-told (rowsOf table) (omega arith) (rows-told (rowsOf table) (omega arith)) row known
+      in
+      record {
+        spans = spansNow m row;
+        spanned = spans-told row known;
+        laid = row-laid m row known counts spans-fit;
+        says = (told .sound, told .complete);
+      }
+
+  pub event-kept : Invariant table longer time stateAfter
+  unfolding recordAfter
+  event-kept =
+      record {
+        now = refl;
+        ordered = longer-ordered;
+        time = refl;
+        seen = refl;
+        ready = rw (length-store m (rowsOf table) spans-fit (inv .ready .room)) (inv .ready);
+        sized = sized-after m (inv .sized);
+        sound = sound-after m (inv .ready) (inv .sound) risen within (inv .sized);
+        follows = row-follows;
+      }

@@ -1,0 +1,170 @@
+-- Demand 3, "No smaller figure serves": once p with the limits a and b, on a store of exactly the need, and a pulse of p whenever the former's reach has
+-- just ended and a gap follows, as in `filling` of the meaning.
+use mathlib.Core.List.{List, [], _∷_, _++_}
+use mathlib.Core.Logic.{inl}
+use mathlib.Core.Path.{_≡_, refl, ap, _∙_}
+use Prim.Native.Nat.{ℕ, zero, suc, _+_, _*_, _-_, _/_, _≤_}
+use native.Mathlib.Nat.{suc-mul, div-mul-le-self}
+use native.Mathlib.Omega.{arith}
+use lib.ListN.{length, getD, replicate, length-append, length-replicate}
+use borrow.Author.Tests.{le-leb}
+use Rattle.meaning.specs.Interval.{End, upTo, noEnd, endOf}
+use Rattle.meaning.specs.History.{History, lastTime}
+use Rattle.meaning.specs.Formula.{truth, bit, Holds}
+use Rattle.meaning.specs.Spans.{Span}
+use Rattle.meaning.specs.Runs.{Runs}
+use Rattle.meaning.specs.Figure.{figure}
+use Rattle.meaning.proofs.RunsLaws.{runs-only}
+use Rattle.meaning.proofs.FigureLaws.{pulseTime, pulses, filling, figure-is-filled}
+use Rattle.rules.specs.Kinds.{rowX, rowY, stretch, kindAt}
+use Rattle.rules.specs.Rows.{rowsOf, numbersAt, ruleOf}
+use Rattle.rules.specs.Stretches.{needOf}
+use Rattle.rules.specs.RowFormula.{below, formulaOf}
+use Rattle.rules.specs.Table.{lengthPasses, rowPasses, faultOf, firstFault, passed, checkOf}
+use Rattle.monitor.specs.Record.{timeLimit}
+use Rattle.monitor.specs.Ready.{readyOf}
+use Rattle.monitor.specs.Start.{startOf}
+use Rattle.monitor.specs.Step.{Call, event}
+use Rattle.promises.specs.Stream.{Starts, kept, state, history, clock}
+use Rattle.promises.specs.Conditions.{LimitsRight}
+use Rattle.promises.specs.Spans.{RowRuns}
+use Rattle.promises.specs.Room.{AllKept, Filled, RunsFill, FigureIsReached}
+use Rattle.promises.proofs.RangeLaws.{range-cases, range-order}
+use Rattle.promises.proofs.Deciding.{told-true}
+use Rattle.promises.proofs.TableTold.{limits-told}
+use Rattle.promises.proofs.StretchTold.{in-range-of}
+use Rattle.promises.proofs.Spans.{spans-are-the-runs}
+
+-- The table "true since bit 0", and a store of exactly its need.
+abbrev onceTable : ℕ → ℕ → List ℕ
+onceTable a b = 1 ∷ 0 ∷ 0 ∷ 0 ∷ 0 ∷ 0 ∷ 0 ∷ 0 ∷ 0 ∷ 0 ∷ 6 ∷ 1 ∷ 0 ∷ a ∷ b ∷ []
+
+abbrev onceStore : ℕ → ℕ → List ℕ
+onceStore a b = replicate (needOf (onceTable a b)) 0
+
+once-passes : (a b : ℕ) → LimitsRight a b → checkOf (onceTable a b) ≡ passed (rowsOf (onceTable a b)) (needOf (onceTable a b))
+unfolding checkOf lengthPasses firstFault faultOf rowPasses numbersAt kindAt
+once-passes a b limits =
+    rw (told-true (limits-told 0 0) (record { low = omega arith; high = inl (omega arith) }), told-true (limits-told a b) limits)
+
+once-starts : (a b : ℕ) → LimitsRight a b → Starts (onceTable a b) (onceStore a b)
+unfolding startOf readyOf
+once-starts a b limits =
+    let need = needOf (onceTable a b) in
+    rw (once-passes a b limits, length-replicate {A = ℕ} need 0, le-leb need need (omega arith))
+
+once-since : (a b : ℕ) → ruleOf (numbersAt (onceTable a b) 2) ≡ stretch rowX rowY
+unfolding numbersAt kindAt
+once-since a b = refl
+
+-- Its runs are those of "once p".
+once-runs : (a b : ℕ) (h : History) (time : ℕ) (S : List Span)
+    → RowRuns (onceTable a b) 2 rowX rowY h time S
+    → Runs (Holds truth) (Holds (bit 0)) a (endOf b) h time S
+unfolding numbersAt formulaOf below kindAt
+once-runs a b h time S runs = runs
+
+-- The pulses as calls, the oldest first.
+pulseCalls : ℕ → ℕ → List Call
+pulseCalls apart zero = event 0 1 ∷ []
+pulseCalls apart (suc n) = pulseCalls apart n ++ (event (pulseTime apart (suc n)) 1 ∷ [])
+
+fillingCalls : ℕ → End → List Call
+fillingCalls a (upTo b) = pulseCalls (b - a + 2) (b / (b - a + 2))
+fillingCalls a noEnd = pulseCalls 0 0
+
+kept-append : (h : History) (calls more : List Call) → kept h (calls ++ more) ≡ kept (kept h calls) more
+unfolding kept
+kept-append h [] more = refl
+kept-append h (c ∷ calls) more = kept-append _ calls more
+
+pulses-last : (apart n : ℕ) → lastTime (pulses apart n) ≡ pulseTime apart n
+unfolding pulses pulseTime
+pulses-last apart zero = refl
+pulses-last apart (suc n) = refl
+
+pulse-time : (apart n : ℕ) → pulseTime apart n ≡ n * apart
+unfolding pulseTime
+pulse-time apart zero = omega arith
+pulse-time apart (suc n) = rw (suc-mul n apart, pulse-time apart n)
+
+pulses-kept : (apart n : ℕ) → pulseTime apart n ≤ timeLimit → history (pulseCalls apart n) ≡ pulses apart n
+unfolding pulseCalls pulses pulseTime kept
+pulses-kept apart zero within = refl
+pulses-kept apart (suc n) within =
+    rw (
+      kept-append [] (pulseCalls apart n) (event (pulseTime apart n + apart) 1 ∷ []),
+      pulses-kept apart n (omega arith),
+      pulses-last apart n,
+      le-leb (pulseTime apart n + apart) timeLimit within,
+      le-leb (pulseTime apart n) (pulseTime apart n + apart) (omega arith),
+    )
+
+pulses-length : (apart n : ℕ) → length (pulses apart n) ≡ length (pulseCalls apart n)
+unfolding pulseCalls pulses
+pulses-length apart zero = refl
+pulses-length apart (suc n) = simp length-append (omega (arith, pulses-length apart n))
+
+filling-kept : (a b : ℕ) → LimitsRight a b → history (fillingCalls a (endOf b)) ≡ filling a (endOf b)
+unfolding fillingCalls filling
+filling-kept a b limits =
+    range-cases (λ end. history (fillingCalls a end) ≡ filling a end) a b (in-range-of limits)
+    (pulses-kept 0 0 (omega (arith, pulse-time 0 0)))
+    (λ order most.
+    let n = b / (b - a + 2) in
+    pulses-kept (b - a + 2) n (omega (arith, pulse-time (b - a + 2) n, div-mul-le-self b (b - a + 2))))
+
+all-kept : (a b : ℕ) → LimitsRight a b → AllKept (fillingCalls a (endOf b))
+unfolding fillingCalls filling
+all-kept a b limits = ap length (filling-kept a b limits) ∙ go (endOf b)
+  where
+    go : (end : End) → length (filling a end) ≡ length (fillingCalls a end)
+    go (upTo last) = pulses-length (last - a + 2) (last / (last - a + 2))
+    go noEnd = pulses-length 0 0
+
+-- The runs after them are as many as the figure; and so is the row's count, for its spans are the runs, and there is only one list of runs.
+runs-fill : (a b : ℕ) → LimitsRight a b → RunsFill a b
+runs-fill a b limits =
+    let (full, runs, many) = figure-is-filled a (endOf b) (range-order a b (in-range-of limits)) in
+    record {
+      calls = fillingCalls a (endOf b);
+      kept = all-kept a b limits;
+      spans = full;
+      runs = rw (filling-kept a b limits) runs;
+      many = many;
+    }
+
+once-full : (a b : ℕ)
+    → LimitsRight a b
+    → getD (state (onceTable a b) (onceStore a b) (fillingCalls a (endOf b)) .found .counts) 2 0 ≡ figure a (endOf b)
+unfolding runs-fill
+once-full a b limits =
+    let calls = fillingCalls a (endOf b) in
+    let runned = spans-are-the-runs (onceTable a b) (onceStore a b) (once-starts a b limits) calls 2 rowX rowY (omega arith) (once-since a b) in
+    let full = runs-fill a b limits in
+    runned .laid .counted
+    ∙ ap length
+    (runs-only (Holds truth) (Holds (bit 0)) a (endOf b) (history calls) (clock calls) (runned .spans) (full .spans)
+    (once-runs a b (history calls) (clock calls) (runned .spans) (runned .runs)) (full .runs))
+    ∙ full .many
+
+once-filled : (a b : ℕ) → LimitsRight a b → Filled a b
+unfolding numbersAt
+once-filled a b limits =
+    record {
+      table = onceTable a b;
+      row = 2;
+      inside = omega arith;
+      since = once-since a b;
+      from = refl;
+      to = refl;
+      store = onceStore a b;
+      exactly = length-replicate (needOf (onceTable a b)) 0;
+      starts = once-starts a b limits;
+      calls = fillingCalls a (endOf b);
+      kept = all-kept a b limits;
+      full = once-full a b limits;
+    }
+
+pub figure-is-reached : FigureIsReached
+figure-is-reached a b limits = (once-filled a b limits, runs-fill a b limits)

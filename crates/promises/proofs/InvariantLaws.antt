@@ -1,0 +1,28 @@
+-- What the invariant gives: the table passes, and the spans found in each row are those that were laid out.
+use mathlib.Core.List.{List}
+use mathlib.Core.Path.{_≡_}
+use Prim.Native.Nat.{ℕ, _≤_, _<_}
+use native.Mathlib.Omega.{arith}
+use Rattle.meaning.specs.History.{History}
+use Rattle.rules.specs.Rows.{rowsOf, numbersAt, ruleOf}
+use Rattle.rules.specs.Stretches.{needOf}
+use Rattle.rules.proofs.PassedLaws.{InRange, Passed, passed-gives}
+use Rattle.monitor.specs.Record.{timeLimit, spansFound}
+use Rattle.monitor.proofs.LayoutLaws.{laid-read}
+use Rattle.promises.specs.Stream.{State}
+use Rattle.promises.specs.Invariant.{Invariant}
+use Rattle.promises.proofs.TableRefusals.{table-passes}
+use Rattle.promises.proofs.SpannedLaws.{spanned-sound, spanned-stored}
+
+module _ {table : List ℕ} {h : History} {clock : ℕ} {s : State} (inv : Invariant table h clock s) where
+  pub passes : Passed table (rowsOf table) (needOf table)
+  passes = passed-gives table (rowsOf table) (needOf table) (table-passes table (inv .ready .right))
+
+  pub spans-found : (row : ℕ) (known : row < rowsOf table) → spansFound table (s .store) (s .found) row ≡ inv .follows row known .spans
+  spans-found row known =
+      let range : InRange (numbersAt table row .a) (numbersAt table row .b) = passes .good row known .limits in
+      let within : clock ≤ timeLimit = omega (arith, inv .time, inv .sound .limit) in
+      let S = inv .follows row known .spans in
+      laid-read (inv .follows row known .laid)
+      (spanned-stored table row h clock within range S
+      (spanned-sound table row h clock (inv .ordered) range (ruleOf (numbersAt table row)) S (inv .follows row known .spanned)))

@@ -1,0 +1,24 @@
+-- The proofs of what is promised, under the names of specs/, and the laws that they share.
+pub mod RowsAfter
+pub mod RangeLaws
+pub mod Deciding
+pub mod TableTold
+pub mod TableRefusals
+pub mod StretchTold
+pub mod RecordTold
+pub mod Refusing
+pub mod AsIfNotMade
+pub mod SoundAfter
+pub mod SoundIsKept
+pub mod SpareWords
+pub mod OneOutcome
+pub mod SpannedLaws
+pub mod InvariantLaws
+pub mod StartRight
+pub mod EventKept
+pub mod CallKept
+pub mod StreamKept
+pub mod Verdicts
+pub mod Spans
+pub mod Room
+pub mod FigureReached

@@ -1,0 +1,165 @@
+-- Bad input is refused by number exactly under the listed conditions, and a refused call changes nothing. For each call: what the table of refusals
+-- names is answered, what passes is not refused, and one of the two is so.
+use mathlib.Core.List.{List}
+use mathlib.Core.Logic.{_⊎_, inr, _↔_, ⊎-elim, ⊎-map}
+use mathlib.Core.Option.{Option, none, some}
+use mathlib.Core.Path.{_≡_, refl}
+use Prim.Native.Nat.{ℕ, _≤_, _<_}
+use native.Mathlib.Omega.{arith}
+use borrow.Author.Tests.{le-leb, lt-leb}
+use lib.ListN.{length}
+use Rattle.meaning.specs.FrameTime.{frameTime}
+use Rattle.meaning.proofs.SpansLaws.{le-or-lt}
+use Rattle.meaning.proofs.Tells.{tells-decided}
+use Rattle.rules.specs.Refusals.{Refused, refused}
+use Rattle.rules.specs.Table.{Said, passed, refusedBy, checkOf}
+use Rattle.rules.specs.declared.refusal.Refusal.the-variants.{Earlier, Late, Record}
+use Rattle.monitor.specs.declared.record.Record as Kept
+use Rattle.monitor.specs.Record.{timeLimit, nothingSeen}
+use Rattle.monitor.specs.Ready.{readyOf}
+use Rattle.monitor.specs.Event.{Moment}
+use Rattle.monitor.specs.Start.{begin, startOf}
+use Rattle.monitor.specs.Step.{Setup, Call, timeOf, refusalOf, momentOf, afterOf, verdictOf, verdict, refusal, outcome, stepOf, at, notAt, frameTimeOf}
+use Rattle.promises.specs.Conditions.{Ready, RecordRight}
+use Rattle.promises.specs.Refusing.{TableRefused, StartRefused, CallRefused, start, seven, six, five, RefusedExactly, RefusalChangesNothing}
+use Rattle.promises.proofs.Deciding.{told-true, told-false, exactly}
+use Rattle.promises.proofs.TableRefusals.{table-refuses, table-passes, table-decided, start-refuses, start-passes, start-decided}
+use Rattle.promises.proofs.RecordTold.{record-told}
+
+check-exactly : (table : List ℕ) (fault : Refused) → (checkOf table ≡ refusedBy fault) ↔ TableRefused table fault
+check-exactly table =
+    exactly (checkOf table) refusedBy
+    (λ f g e. cc)
+    (table-refuses table)
+    (λ right fault e. let passes = table-passes table right in let clash : _≡_ {A = ℕ} 0 1 = cc in omega arith)
+    (table-decided table)
+
+start-exactly : (table store : List ℕ) (fault : Refused) → (startOf table store .refusal ≡ some fault) ↔ StartRefused table (length store) fault
+unfolding startOf
+start-exactly table store =
+    exactly (startOf table store .refusal) some
+    (λ f g e. cc)
+    (λ fault wrong. rw (start-refuses table (length store) fault wrong))
+    (λ ready fault e.
+    let passes : startOf table store .refusal ≡ none = rw (start-passes table (length store) ready) in
+    let clash : _≡_ {A = ℕ} 0 1 = cc in
+    omega arith)
+    (start-decided table (length store))
+
+-- No condition on a call fails.
+pub record Accepted (setup : Setup) (store : List ℕ) (found : Kept.Record) (c : Call) : Type 0 where
+  pub ready : Ready (setup .table) (length store)
+  pub sound : RecordRight (setup .table) store found
+  pub early : timeOf found c ≤ timeLimit
+  pub risen : found .time ≤ timeOf found c
+
+module _ (setup : Setup) (store : List ℕ) (found : Kept.Record) (c : Call) where
+  call-refuses : (fault : Refused) → CallRefused setup store found c fault → refusalOf setup store found c ≡ some fault
+  unfolding refusalOf
+  call-refuses fault (start wrong) = rw (start-refuses (setup .table) (length store) fault wrong)
+  call-refuses _ (seven ready wrong) =
+      rw (start-passes (setup .table) (length store) ready, told-false (record-told (setup .table) store ready found) wrong)
+  call-refuses _ (six ready right late) =
+      rw (
+        start-passes (setup .table) (length store) ready,
+        told-true (record-told (setup .table) store ready found) right,
+        lt-leb (timeOf found c) timeLimit late,
+      )
+  call-refuses _ (five ready right early before) =
+      rw (
+        start-passes (setup .table) (length store) ready,
+        told-true (record-told (setup .table) store ready found) right,
+        le-leb (timeOf found c) timeLimit early,
+        lt-leb (found .time) (timeOf found c) before,
+      )
+
+  pub call-passes : Accepted setup store found c → refusalOf setup store found c ≡ none
+  unfolding refusalOf
+  call-passes accepted =
+      rw (
+        start-passes (setup .table) (length store) (accepted .ready),
+        told-true (record-told (setup .table) store (accepted .ready) found) (accepted .sound),
+        le-leb (timeOf found c) timeLimit (accepted .early),
+        le-leb (found .time) (timeOf found c) (accepted .risen),
+      )
+
+  -- One of the two is so: by the times, by the record, and from the start.
+  abbrev Decided : Type 0
+  Decided = Accepted setup store found c ⊎ ((fault : Refused) × CallRefused setup store found c fault)
+
+  times-decided : Ready (setup .table) (length store) → RecordRight (setup .table) store found → Decided
+  times-decided ready sound =
+      ⊎-elim
+      (λ early.
+      ⊎-map
+      (λ risen. record { ready = ready; sound = sound; early = early; risen = risen })
+      (λ before. (refused Earlier, five ready sound early before))
+      (le-or-lt (found .time) (timeOf found c)))
+      (λ late. inr (refused Late, six ready sound late))
+      (le-or-lt (timeOf found c) timeLimit)
+
+  record-decided : Ready (setup .table) (length store) → Decided
+  record-decided ready =
+      ⊎-elim
+      (times-decided ready)
+      (λ wrong. inr (refused Record, seven ready wrong))
+      (tells-decided (record-told (setup .table) store ready found))
+
+  call-decided : Decided
+  call-decided = ⊎-elim record-decided (λ wrong. inr (wrong .0, start (wrong .1))) (start-decided (setup .table) (length store))
+
+  pub accepted-of : refusalOf setup store found c ≡ none → Accepted setup store found c
+  accepted-of passes =
+      ⊎-elim
+      (λ accepted. accepted)
+      (λ wrong. let refuses = call-refuses (wrong .0) (wrong .1) in let clash : _≡_ {A = ℕ} 0 1 = cc in absurd (omega arith))
+      call-decided
+
+  call-exactly : (fault : Refused) → (stepOf setup store found c .reply ≡ refusal fault) ↔ CallRefused setup store found c fault
+  unfolding stepOf
+  call-exactly =
+      exactly (stepOf setup store found c .reply) refusal
+      (λ f g e. cc)
+      (λ fault wrong. rw (call-refuses fault wrong))
+      (λ accepted fault e.
+      let m = momentOf setup store found c in
+      let judged : stepOf setup store found c .reply ≡ verdict (verdictOf setup (afterOf m .truths)) = rw (call-passes accepted) in
+      let clash : _≡_ {A = ℕ} 0 1 = cc in
+      omega arith)
+      call-decided
+
+time-exactly : (last counter : ℕ) (fault : Refused) → (frameTimeOf last counter ≡ notAt fault) ↔ ((timeLimit < last) × (fault ≡ refused Late))
+unfolding frameTimeOf
+time-exactly last counter =
+    exactly (frameTimeOf last counter) notAt
+    (λ f g e. cc)
+    (λ fault wrong. rw (lt-leb last timeLimit (wrong .0), wrong .1))
+    (λ early fault e.
+    let answered : at (frameTime last counter) ≡ notAt fault = rw (le-leb last timeLimit early) at e in
+    let clash : _≡_ {A = ℕ} 0 1 = cc in
+    omega arith)
+    (⊎-map (λ early. early) (λ late. (refused Late, (late, refl))) (le-or-lt last timeLimit))
+
+pub refused-exactly : RefusedExactly
+refused-exactly = record { check = check-exactly; start = start-exactly; call = call-exactly; time = time-exactly }
+
+-- What stands beside a refusal.
+outcome-refused : (setup : Setup) (store : List ℕ) (found : Kept.Record) (m : Moment) (o : Option Refused) (fault : Refused)
+    → outcome setup store found m o .reply ≡ refusal fault
+    → (outcome setup store found m o .left ≡ found) × (outcome setup store found m o .store ≡ store)
+outcome-refused setup store found m none fault e = let clash : _≡_ {A = ℕ} 0 1 = cc in absurd (omega arith)
+outcome-refused setup store found m (some first) fault e = (refl, refl)
+
+begin-refused : (store : List ℕ) (said : Said) (fault : Refused)
+    → begin store said .refusal ≡ some fault
+    → (begin store said .given ≡ nothingSeen 0) × (begin store said .store ≡ store)
+begin-refused store (passed rows need) fault e = let clash : _≡_ {A = ℕ} 0 1 = cc in absurd (omega arith)
+begin-refused store (refusedBy first) fault e = (refl, refl)
+
+pub refusal-changes-nothing : RefusalChangesNothing
+unfolding stepOf startOf
+refusal-changes-nothing =
+    record {
+      call = λ setup store found c. outcome-refused setup store found (momentOf setup store found c) (refusalOf setup store found c);
+      start = λ table store. begin-refused store (readyOf table (length store));
+    }

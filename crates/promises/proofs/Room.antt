@@ -1,0 +1,57 @@
+-- Demand 3, its room, read off the invariant: the calls' refusals are 6 and 5 alone, and runs are sound, so that the figure is enough.
+use mathlib.Core.List.{List}
+use mathlib.Core.Logic.{⊎-elim}
+use mathlib.Core.Path.{_≡_, ap}
+use Prim.Native.Nat.{ℕ, _≤_, _<_}
+use native.Mathlib.Omega.{arith}
+use lib.ListN.{length}
+use Rattle.rules.specs.Kinds.{Source, stretch}
+use Rattle.rules.specs.Refusals.{refused, numberOf}
+use Rattle.rules.specs.Rows.{rowsOf, numbersAt, ruleOf}
+use Rattle.rules.specs.Stretches.{spansOf}
+use Rattle.rules.specs.declared.refusal.Refusal.{Refusal}
+use Rattle.rules.specs.declared.refusal.Refusal.the-variants.{Store, Record, Earlier, Late}
+use Rattle.meaning.specs.Spans.{Span}
+use Rattle.monitor.specs.Step.{Call, refusal}
+use Rattle.promises.specs.Stream.{Starts, state, history, clock, outcome}
+use Rattle.promises.specs.Spans.{RowRuns}
+use Rattle.promises.specs.Room.{NeverShortOfRoom}
+use Rattle.promises.specs.Invariant.{Invariant}
+use Rattle.promises.proofs.SpannedLaws.{spanned-enough}
+use Rattle.promises.proofs.InvariantLaws.{passes}
+use Rattle.promises.proofs.CallKept.{refused-only}
+use Rattle.promises.proofs.StreamKept.{stream-kept}
+
+module _ (table store : List ℕ) (starts : Starts table store) (calls : List Call) where
+  stream : Invariant table (history calls) (clock calls) (state table store calls)
+  stream = stream-kept table store starts calls
+
+  -- A refusal of a stream has number 6 or 5.
+  not-refused : (c : Call) (other : Refusal)
+      → ¬ (numberOf other ≡ numberOf Late)
+      → ¬ (numberOf other ≡ numberOf Earlier)
+      → ¬ (outcome table store calls c .reply ≡ refusal (refused other))
+  not-refused c other late earlier said =
+      ⊎-elim
+      (λ same. late (ap (λ fault. fault .number) same))
+      (λ same. earlier (ap (λ fault. fault .number) same))
+      (refused-only stream c (refused other) said)
+
+  runs-enough : (row : ℕ) (keep feed : Source) (S : List Span)
+      → row < rowsOf table
+      → ruleOf (numbersAt table row) ≡ stretch keep feed
+      → RowRuns table row keep feed (history calls) (clock calls) S
+      → length S ≤ spansOf (numbersAt table row)
+  runs-enough row keep feed S known since runs =
+      rw since
+      (spanned-enough table row (history calls) (clock calls) (stream .ordered)
+      (passes stream .good row known .limits)
+      (stretch keep feed) S runs)
+
+pub never-short-of-room : NeverShortOfRoom
+never-short-of-room table store starts calls =
+    record {
+      room = λ c. not-refused table store starts calls c Store (omega arith) (omega arith);
+      sound = λ c. not-refused table store starts calls c Record (omega arith) (omega arith);
+      enough = runs-enough table store starts calls;
+    }

@@ -1,0 +1,196 @@
+-- A call and a start look only at the words of the need. Row by row: each stretch lies within the need, so the spans found are the same, and with them
+-- the test of soundness and what the event leaves.
+use mathlib.Core.Bool.{Bool}
+use mathlib.Core.List.{List}
+use mathlib.Core.Logic.{⊎-elim}
+use mathlib.Core.Option.{Option, none, some}
+use mathlib.Core.Path.{_≡_, refl, sym, ap, _∙_}
+use Prim.Native.Nat.{ℕ, zero, suc, _+_, _≤_, _<_}
+use native.Mathlib.Omega.{arith}
+use borrow.Author.Tests.{le-leb}
+use lib.ListN.{length, take, drop, replicate, length-replicate}
+use lib.Seq.{length-take-le, take-take, take-add, take-at, drop-at}
+use Rattle.meaning.specs.Spans.{Span}
+use Rattle.rules.specs.Kinds.{Plain, truth, bit, negation, both, either, previous, Rule, plain, stretch}
+use Rattle.rules.specs.Refusals.{Refused}
+use Rattle.rules.specs.Rows.{rowsOf, numbersAt, ruleOf}
+use Rattle.rules.specs.Stretches.{width, offset, needOf}
+use Rattle.rules.specs.declared.numbers.Numbers.{Numbers}
+use Rattle.rules.specs.Table.{Said, passed, refusedBy}
+use Rattle.rules.proofs.StretchesLaws.{stretch-before}
+use Rattle.monitor.specs.declared.record.Record.{Record}
+use Rattle.monitor.specs.Record.{stretchAt, spansFound}
+use Rattle.monitor.specs.Soundness.{every, soundRow?, sound?}
+use Rattle.monitor.specs.Ready.{readyOf}
+use Rattle.monitor.specs.Start.{startOf}
+use Rattle.monitor.specs.Event.{Moment, spansBy, spansAfter, truthBy, truthOf, truthsAfter, spansNow, countsAfter, wordsDone, storeAfter, recordAfter}
+use Rattle.monitor.specs.Step.{Setup, Call, refusalOf, momentOf, stepOf}
+use Rattle.promises.specs.Words.{SameNeeded, Alike, BegunAlike, SpareWords}
+use Rattle.promises.proofs.TableRefusals.{table-refuses, table-passes, table-decided, start-refuses, start-passes, start-decided}
+use Rattle.promises.proofs.RowsAfter.{Room, length-done, words-left}
+use Rattle.promises.proofs.SoundAfter.{room-after}
+use Rattle.promises.proofs.Refusing.{Accepted, accepted-of}
+
+-- A stretch is a part of the words of the need.
+stretch-from : (table store : List ℕ) (row : ℕ)
+    → row < rowsOf table
+    → needOf table ≤ length store
+    → stretchAt table store row ≡ drop (offset table row) (take (offset table row + width (numbersAt table row)) (take (needOf table) store))
+unfolding stretchAt
+stretch-from table store row lower room =
+    let o = offset table row in
+    let w = width (numbersAt table row) in
+    let within : o + w ≤ needOf table = stretch-before table row (rowsOf table) lower in
+    rw (take-take (o + w) (needOf table) store within, take-add o w store)
+    (sym (drop-at (take o store) (take w (drop o store)) o (length-take-le o store (omega arith))))
+
+-- The words of the need, after an event that leaves room.
+needed-after : (m : Moment) (n : ℕ) → Room m n → take (offset (m .table) n) (storeAfter m n) ≡ wordsDone m n
+unfolding storeAfter
+needed-after m n room = take-at (wordsDone m n) (drop (offset (m .table) n) (m .store)) (offset (m .table) n) (length-done m n room)
+
+every-same : (n : ℕ) (test other : ℕ → Bool) → ((row : ℕ) → row < n → test row ≡ other row) → every n test ≡ every n other
+unfolding every
+every-same zero test other same = refl
+every-same (suc n) test other same = rw (every-same n test other (λ row lower. same row (omega arith)), same n (omega arith))
+
+-- The tests before a call.
+module _ (table store other : List ℕ) (alike : SameNeeded table store other) where
+  same-stretch : (row : ℕ) → row < rowsOf table → stretchAt table store row ≡ stretchAt table other row
+  same-stretch row lower =
+      stretch-from table store row lower (alike .room)
+      ∙ ap (λ (words : List ℕ). drop (offset table row) (take (offset table row + width (numbersAt table row)) words)) (alike .words)
+      ∙ sym (stretch-from table other row lower (alike .other-room))
+
+  same-ready : readyOf table (length store) ≡ readyOf table (length other)
+  unfolding readyOf
+  same-ready =
+      ⊎-elim
+      (λ right.
+      rw (
+        table-passes table right,
+        le-leb (needOf table) (length store) (alike .room),
+        le-leb (needOf table) (length other) (alike .other-room),
+      ))
+      (λ wrong. rw (table-refuses table (wrong .0) (wrong .1)))
+      (table-decided table)
+
+  same-sound : (found : Record) → sound? table store found ≡ sound? table other found
+  unfolding sound? soundRow?
+  same-sound found =
+      rw (every-same (rowsOf table) (soundRow? table store found) (soundRow? table other found) (λ row lower. rw (same-stretch row lower)))
+
+module _ (setup : Setup) (store other : List ℕ) (found : Record) (c : Call) (alike : SameNeeded (setup .table) store other) where
+  same-refusal : refusalOf setup store found c ≡ refusalOf setup other found c
+  unfolding refusalOf
+  same-refusal = rw (same-ready (setup .table) store other alike, same-sound (setup .table) store other alike found)
+
+  -- The call at the one store and at the other; one-event rules read the store through the spans found alone.
+  abbrev m : Moment
+  m = momentOf setup store found c
+
+  abbrev m′ : Moment
+  m′ = momentOf setup other found c
+
+  by-same : (truths : List Bool) (before : List Span) (n : Numbers) (rule : Rule) → spansBy m truths before n rule ≡ spansBy m′ truths before n rule
+  by-same truths before n (plain says) = refl
+  by-same truths before n (stretch keep feed) = refl
+
+  plain-same : (truths : List Bool) (after : List Span) (n : Numbers) (says : Plain)
+      → truthBy m truths after n (plain says) ≡ truthBy m′ truths after n (plain says)
+  plain-same truths after n truth = refl
+  plain-same truths after n bit = refl
+  plain-same truths after n negation = refl
+  plain-same truths after n both = refl
+  plain-same truths after n either = refl
+  plain-same truths after n previous = refl
+
+  truth-same : (truths : List Bool) (after : List Span) (n : Numbers) (rule : Rule) → truthBy m truths after n rule ≡ truthBy m′ truths after n rule
+  truth-same truths after n (plain says) = plain-same truths after n says
+  truth-same truths after n (stretch keep feed) = refl
+
+  same-spans : (row : ℕ) (truths : List Bool) → row < rowsOf (setup .table) → spansAfter m row truths ≡ spansAfter m′ row truths
+  unfolding spansAfter
+  same-spans row truths lower =
+      rw (same-stretch (setup .table) store other alike row lower)
+      (by-same truths (spansFound (setup .table) other found row) (numbersAt (setup .table) row) (ruleOf (numbersAt (setup .table) row)))
+
+  same-truth : (row : ℕ) (truths : List Bool) → row < rowsOf (setup .table) → truthOf m row truths ≡ truthOf m′ row truths
+  unfolding truthOf
+  same-truth row truths lower =
+      rw (same-spans row truths lower)
+      (truth-same truths (spansAfter m′ row truths) (numbersAt (setup .table) row) (ruleOf (numbersAt (setup .table) row)))
+
+  same-truths : (n : ℕ) → n ≤ rowsOf (setup .table) → truthsAfter m n ≡ truthsAfter m′ n
+  unfolding truthsAfter
+  same-truths zero within = refl
+  same-truths (suc n) within = rw (same-truths n (omega arith), same-truth n (truthsAfter m′ n) within)
+
+  same-now : (row : ℕ) → row < rowsOf (setup .table) → spansNow m row ≡ spansNow m′ row
+  same-now row lower = rw (same-truths row (omega arith)) (same-spans row (truthsAfter m′ row) lower)
+
+  same-counts : (n : ℕ) → n ≤ rowsOf (setup .table) → countsAfter m n ≡ countsAfter m′ n
+  unfolding countsAfter
+  same-counts zero within = refl
+  same-counts (suc n) within = rw (same-counts n (omega arith), same-now n within)
+
+  same-done : (n : ℕ) → n ≤ rowsOf (setup .table) → wordsDone m n ≡ wordsDone m′ n
+  unfolding wordsDone
+  same-done zero within = refl
+  same-done (suc n) within = rw (same-done n (omega arith), same-now n within)
+
+  alike-by : (o : Option Refused) → refusalOf setup store found c ≡ o → refusalOf setup other found c ≡ o → Alike setup store other found c
+  unfolding stepOf recordAfter
+  alike-by (some fault) e e′ =
+      record { reply = rw (e, e′); left = rw (e, e′); needed = rw (e, e′) (alike .words); spare = rw e }
+  alike-by none e e′ =
+      let rows = rowsOf (setup .table) in
+      let truths = same-truths rows (omega arith) in
+      let counts = same-counts rows (omega arith) in
+      let first : Accepted setup store found c = accepted-of setup store found c e in
+      let second : Accepted setup other found c = accepted-of setup other found c e′ in
+      let room : Room m rows = room-after m (first .ready) (first .sound) (first .risen) in
+      let room′ : Room m′ rows = room-after m′ (second .ready) (second .sound) (second .risen) in
+      record {
+        reply = rw (e, e′, truths);
+        left = rw (e, e′, truths, counts);
+        needed = rw (e, e′) (needed-after m rows room ∙ same-done rows (omega arith) ∙ sym (needed-after m′ rows room′));
+        spare = rw e (words-left m rows room);
+      }
+
+  call-alike : Alike setup store other found c
+  call-alike = alike-by (refusalOf setup store found c) refl (sym same-refusal)
+
+-- A start looks only at the size.
+module _ (table store other : List ℕ) (alike : SameNeeded table store other) where
+  other-said : {said : Said} → readyOf table (length store) ≡ said → readyOf table (length other) ≡ said
+  other-said e = sym (same-ready table store other alike) ∙ e
+
+  good-alike : readyOf table (length store) ≡ passed (rowsOf table) (needOf table) → BegunAlike table store other
+  unfolding startOf
+  good-alike e =
+      let zeros : List ℕ = replicate (needOf table) 0 in
+      let size : length zeros ≡ needOf table = length-replicate (needOf table) 0 in
+      record {
+        refusal = rw (e, other-said e);
+        given = rw (e, other-said e);
+        needed =
+            rw (e, other-said e)
+            (take-at zeros (drop (needOf table) store) (needOf table) size ∙ sym (take-at zeros (drop (needOf table) other) (needOf table) size));
+        spare = rw e (drop-at zeros (drop (needOf table) store) (needOf table) size);
+      }
+
+  refused-alike : (fault : Refused) → readyOf table (length store) ≡ refusedBy fault → BegunAlike table store other
+  unfolding startOf
+  refused-alike fault e =
+      record { refusal = rw (e, other-said e); given = rw (e, other-said e); needed = rw (e, other-said e) (alike .words); spare = rw e }
+
+  start-alike : BegunAlike table store other
+  start-alike =
+      ⊎-elim
+      (λ ready. good-alike (start-passes table (length store) ready))
+      (λ wrong. refused-alike (wrong .0) (start-refuses table (length store) (wrong .0) (wrong .1)))
+      (start-decided table (length store))
+
+pub spare-words : SpareWords
+spare-words = record { call = call-alike; start = start-alike }

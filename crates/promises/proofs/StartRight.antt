@@ -1,0 +1,131 @@
+-- The invariant holds after a good start: the words of the need are 0, so no row holds a span, and before the first event there are no runs.
+use mathlib.Core.Bool.{false}
+use mathlib.Core.List.{List, [], _++_, append-assoc}
+use mathlib.Core.Logic.{⊎-elim}
+use mathlib.Core.Path.{_≡_, refl}
+use Prim.Native.Nat.{ℕ, _+_, _*_, _-_, _≤_, _<_}
+use native.Mathlib.Omega.{arith}
+use lib.ListN.{length, getD, take, drop, replicate, length-append, length-drop, length-replicate, getD-replicate, replicate-append-replicate, List·getD-eq-default}
+use lib.Seq.{take-at, drop-at}
+use Rattle.meaning.proofs.HistoryLaws.{NoLater}
+use Rattle.meaning.proofs.SpansLaws.{le-or-lt}
+use Rattle.meaning.proofs.RunsLaws.{runs-none}
+use Rattle.rules.specs.Limits.{rowLimit}
+use Rattle.rules.specs.Kinds.{Rule, plain, stretch}
+use Rattle.rules.specs.Rows.{rowsOf, numbersAt, ruleOf}
+use Rattle.rules.specs.Stretches.{width, offset, needOf}
+use Rattle.rules.proofs.StretchesLaws.{stretch-before}
+use Rattle.monitor.specs.Layout.{wordsOf, packed, Laid}
+use Rattle.monitor.specs.Record.{heldAt, stretchAt, nothingSeen}
+use Rattle.monitor.specs.Start.{startOf}
+use Rattle.promises.specs.Stream.{State, Starts, started}
+use Rattle.promises.specs.Spans.{NamedHolds}
+use Rattle.promises.specs.Invariant.{Spanned, Invariant}
+use Rattle.promises.specs.Conditions.{Ready, RecordRight}
+use Rattle.promises.proofs.TableRefusals.{start-passes, start-decided}
+use Rattle.promises.proofs.StretchTold.{none-sound}
+use Rattle.promises.proofs.Refusing.{refused-exactly}
+
+-- Nothing but 0 is read from zeros, and false from a list of it.
+same-entry : {A : Type 0} (n row : ℕ) (a : A) → getD (replicate n a) row a ≡ a
+same-entry n row a =
+    ⊎-elim
+    (λ past. List·getD-eq-default (replicate n a) a (rw (length-replicate n a) past))
+    (λ inside. getD-replicate n row a a inside)
+    (le-or-lt n row)
+
+abbrev zeros : ℕ → List ℕ
+zeros n = replicate n 0
+
+-- A part of zeros is zeros.
+zeros-part : (from size n : ℕ) (rest : List ℕ) → from + size ≤ n → take size (drop from (zeros n ++ rest)) ≡ zeros size
+zeros-part from size n rest inside =
+    let after = n - (from + size) in
+    let all : n ≡ from + (size + after) = omega arith in
+    let parts : zeros n ≡ zeros from ++ (zeros size ++ zeros after) =
+    rw (replicate-append-replicate {A = ℕ} size after 0, replicate-append-replicate {A = ℕ} from (size + after) 0, ← all)
+    in
+    rw (
+      parts,
+      append-assoc (zeros from) (zeros size ++ zeros after) rest,
+      drop-at (zeros from) ((zeros size ++ zeros after) ++ rest) from (length-replicate from 0),
+      append-assoc (zeros size) (zeros after) rest,
+      take-at (zeros size) (zeros after ++ rest) size (length-replicate size 0),
+    )
+
+-- Where a start is good the table is right and the store has room.
+start-ready : (table store : List ℕ) → Starts table store → Ready table (length store)
+start-ready table store starts =
+    ⊎-elim
+    (λ ready. ready)
+    (λ wrong.
+    let refuses = refused-exactly .start table store (wrong .0) .1 (wrong .1) in
+    let clash : _≡_ {A = ℕ} 0 1 = cc in
+    absurd (omega arith))
+    (start-decided table (length store))
+
+module _ (table store : List ℕ) (starts : Starts table store) where
+  abbrev fresh : State
+  fresh = record { found = nothingSeen (rowsOf table); store = zeros (needOf table) ++ drop (needOf table) store }
+
+  started-fresh : started table store ≡ fresh
+  unfolding startOf
+  started-fresh = rw (start-passes table (length store) (start-ready table store starts))
+
+  fresh-length : length (fresh .store) ≡ length store
+  fresh-length =
+      let room : needOf table ≤ length store = start-ready table store starts .room in
+      simp (length-append, length-replicate, length-drop) (omega arith)
+
+  -- No runs before the first event.
+  none-spanned : (row : ℕ) (rule : Rule) → Spanned table row [] 0 rule []
+  none-spanned row (plain says) = refl
+  none-spanned row (stretch keep feed) = runs-none (NamedHolds table row keep) (NamedHolds table row feed) _ _ 0
+
+  stretch-fresh : (row : ℕ) → row < rowsOf table → stretchAt table (fresh .store) row ≡ packed (width (numbersAt table row)) []
+  unfolding stretchAt packed wordsOf
+  stretch-fresh row known =
+      let inside : offset table row + width (numbersAt table row) ≤ needOf table = stretch-before table row (rowsOf table) known in
+      let all : width (numbersAt table row) - 2 * 0 ≡ width (numbersAt table row) = omega arith in
+      rw all (zeros-part (offset table row) (width (numbersAt table row)) (needOf table) (drop (needOf table) store) inside)
+
+  row-laid : (row : ℕ) → row < rowsOf table → Laid (width (numbersAt table row)) (stretchAt table (fresh .store) row) (heldAt (fresh .found) row) []
+  unfolding nothingSeen
+  row-laid row known = record { written = stretch-fresh row known; counted = same-entry {A = ℕ} rowLimit row 0 }
+
+  fresh-sound : RecordRight table (fresh .store) (fresh .found)
+  unfolding nothingSeen
+  fresh-sound =
+      record {
+        rows = refl;
+        past = λ row past inside. same-entry rowLimit row false;
+        others = λ row inside other. same-entry {A = ℕ} rowLimit row 0;
+        within = λ row inside since. rw (same-entry {A = ℕ} rowLimit row 0) (omega arith);
+        unseen-time = λ unseen. refl;
+        unseen-rows = λ unseen row inside. (same-entry rowLimit row false, same-entry {A = ℕ} rowLimit row 0);
+        limit = omega arith;
+        stretches = λ row known since. record { spans = []; laid = row-laid row known; sound = none-sound _ _ _ _ };
+      }
+
+  start-fresh : Invariant table [] 0 fresh
+  unfolding nothingSeen NoLater
+  start-fresh =
+      record {
+        now = refl;
+        ordered = tt;
+        time = refl;
+        seen = refl;
+        ready = rw fresh-length (start-ready table store starts);
+        sized = record { truths = length-replicate rowLimit false; counts = length-replicate {A = ℕ} rowLimit 0 };
+        sound = fresh-sound;
+        follows = λ row known.
+            record {
+              spans = [];
+              spanned = none-spanned row (ruleOf (numbersAt table row));
+              laid = row-laid row known;
+              says = same-entry rowLimit row false;
+            };
+      }
+
+  pub start-right : Invariant table [] 0 (started table store)
+  start-right = rw started-fresh start-fresh

@@ -1,0 +1,130 @@
+-- The check of a table, and of a store's size for it, refuses what the table of refusals says, and passes what is right.
+use mathlib.Core.List.{List}
+use mathlib.Core.Logic.{_⊎_, inl, inr, ⊎-elim, ⊎-map}
+use mathlib.Core.Option.{none}
+use mathlib.Core.Path.{_≡_, refl, sym}
+use Prim.Native.Nat.{ℕ, zero, suc, _≤_, _<_}
+use native.Mathlib.Nat.{eq-or-lt-of-le, le-of-suc-le-suc}
+use native.Mathlib.Omega.{arith}
+use borrow.Author.Tests.{le-leb, lt-leb}
+use Rattle.meaning.proofs.SpansLaws.{le-or-lt}
+use Rattle.meaning.proofs.Tells.{tells-decided}
+use Rattle.rules.specs.Refusals.{Refused, refused}
+use Rattle.rules.specs.Rows.{rowsOf, numbersAt}
+use Rattle.rules.specs.Stretches.{offset, needOf}
+use Rattle.rules.specs.Table.{firstFault, passed, refusedBy, checkOf}
+use Rattle.rules.specs.declared.refusal.Refusal.the-variants.{Length, Row, Limits, Store}
+use Rattle.rules.proofs.TableLaws.{fault-row, fault-limits, fault-none, first-at, Reached, refused-at, passed-at, refused-length}
+use Rattle.rules.specs.declared.numbers.Numbers.{Numbers}
+use Rattle.monitor.specs.Ready.{readyOf}
+use Rattle.promises.specs.Conditions.{LengthRight, RowRight, LimitsRight, RowsRight, TableRight, Ready}
+use Rattle.promises.specs.Refusing.{TableRefused, one, two, three, StartRefused, table, four}
+use Rattle.promises.proofs.Deciding.{told-true, told-false}
+use Rattle.promises.proofs.TableTold.{length-told, row-told, limits-told}
+
+module _ (rules : List ℕ) where
+  rows-no-fault : (n : ℕ) → RowsRight rules n → firstFault rules n ≡ none
+  unfolding firstFault
+  rows-no-fault zero right = refl
+  rows-no-fault (suc n) right =
+      let here = right n (omega arith) in
+      let numbers = numbersAt rules n in
+      first-at rules n none
+      (rows-no-fault n (λ row lower. right row (omega arith)))
+      (fault-none n numbers (told-true (row-told n numbers) (here .0)) (told-true (limits-told (numbers .a) (numbers .b)) (here .1)))
+
+  -- Where the check stands at a row with only right ones below it.
+  reached : LengthRight rules → (row : ℕ) → row ≤ rowsOf rules → RowsRight rules row → Reached rules (offset rules row) row
+  reached lengths row within right =
+      record {
+        size = told-true (length-told rules) lengths;
+        whole = record { no-rest = lengths .whole; some-row = lengths .least; few-rows = lengths .most };
+        within = within;
+        so-far = refl;
+        good = rows-no-fault row right;
+      }
+
+  pub table-refuses : (fault : Refused) → TableRefused rules fault → checkOf rules ≡ refusedBy fault
+  table-refuses _ (one wrong) = sym (refused-length rules (told-false (length-told rules) wrong))
+  table-refuses _ (two lengths r lower rows wrong) =
+      let numbers = numbersAt rules r in
+      sym
+      (refused-at rules (offset rules r) r (reached lengths r (omega arith) rows) (refused (Row r)) lower
+      (fault-row r numbers (told-false (row-told r numbers) wrong)))
+  table-refuses _ (three lengths r lower rows right wrong) =
+      let numbers = numbersAt rules r in
+      sym
+      (refused-at rules (offset rules r) r (reached lengths r (omega arith) rows) (refused (Limits r)) lower
+      (fault-limits r numbers (told-true (row-told r numbers) right) (told-false (limits-told (numbers .a) (numbers .b)) wrong)))
+
+  pub table-passes : TableRight rules → checkOf rules ≡ passed (rowsOf rules) (needOf rules)
+  table-passes right =
+      sym (passed-at rules (needOf rules) (rowsOf rules) (reached (right .lengths) (rowsOf rules) (omega arith) (right .rows)) (omega arith))
+
+-- What is wrong with a row.
+abbrev Bad : ℕ → Numbers → Type 0
+Bad row n = (¬ RowRight row n) ⊎ (RowRight row n × (¬ LimitsRight (n .a) (n .b)))
+
+row-decided : (row : ℕ) (n : Numbers) → (RowRight row n × LimitsRight (n .a) (n .b)) ⊎ Bad row n
+row-decided row n =
+    ⊎-elim
+    (λ right. ⊎-map (λ limits. (right, limits)) (λ wrong. inr (right, wrong)) (tells-decided (limits-told (n .a) (n .b))))
+    (λ wrong. inr (inl wrong))
+    (tells-decided (row-told row n))
+
+module _ (rules : List ℕ) where
+  -- "Among rows the first bad row decides".
+  record FirstBad (n : ℕ) : Type 0 where
+    row : ℕ
+    within : row < n
+    below : RowsRight rules row
+    bad : Bad row (numbersAt rules row)
+
+  rows-decided : (n : ℕ) → RowsRight rules n ⊎ FirstBad n
+  rows-decided zero = inl (λ row lower. absurd (omega arith))
+  rows-decided (suc n) =
+      ⊎-elim
+      (λ below.
+      ⊎-map
+      (λ here row lower. ⊎-elim (λ e. rw e here) (below row) (eq-or-lt-of-le (le-of-suc-le-suc lower)))
+      (λ bad. record { row = n; within = omega arith; below = below; bad = bad })
+      (row-decided n (numbersAt rules n)))
+      (λ first. inr (record { row = first .row; within = omega arith; below = first .below; bad = first .bad }))
+      (rows-decided n)
+
+  first-refused : LengthRight rules → FirstBad (rowsOf rules) → (fault : Refused) × TableRefused rules fault
+  first-refused lengths first =
+      ⊎-elim
+      (λ wrong. (refused (Row (first .row)), two lengths (first .row) (first .within) (first .below) wrong))
+      (λ wrong. (refused (Limits (first .row)), three lengths (first .row) (first .within) (first .below) (wrong .0) (wrong .1)))
+      (first .bad)
+
+  pub table-decided : TableRight rules ⊎ ((fault : Refused) × TableRefused rules fault)
+  table-decided =
+      ⊎-elim
+      (λ lengths.
+      ⊎-map (λ rows. record { lengths = lengths; rows = rows }) (first-refused lengths) (rows-decided (rowsOf rules)))
+      (λ wrong. inr (refused Length, one wrong))
+      (tells-decided (length-told rules))
+
+-- With a store of a size.
+module _ (rules : List ℕ) (size : ℕ) where
+  pub start-refuses : (fault : Refused) → StartRefused rules size fault → readyOf rules size ≡ refusedBy fault
+  unfolding readyOf
+  start-refuses fault (table wrong) = rw (table-refuses rules fault wrong)
+  start-refuses _ (four right short) = rw (table-passes rules right, lt-leb (needOf rules) size short)
+
+  pub start-passes : Ready rules size → readyOf rules size ≡ passed (rowsOf rules) (needOf rules)
+  unfolding readyOf
+  start-passes ready = rw (table-passes rules (ready .right), le-leb (needOf rules) size (ready .room))
+
+  pub start-decided : Ready rules size ⊎ ((fault : Refused) × StartRefused rules size fault)
+  start-decided =
+      ⊎-elim
+      (λ right.
+      ⊎-map
+      (λ room. record { right = right; room = room })
+      (λ short. (refused Store, four right short))
+      (le-or-lt (needOf rules) size))
+      (λ wrong. inr (wrong .0, table (wrong .1)))
+      (table-decided rules)

@@ -1,0 +1,85 @@
+-- The conditions of document 01's table of refusals, as propositions in its words, apart from the definitions that the contracts cite.
+use mathlib.Core.Bool.{false}
+use mathlib.Core.List.{List}
+use mathlib.Core.Logic.{_⊎_}
+use mathlib.Core.Path.{_≡_}
+use Prim.Native.Nat.{ℕ, _+_, _%_, _≤_, _<_}
+use lib.ListN.{length, getD}
+use Rattle.meaning.specs.Interval.{endOf, noEndNumber, _+End_}
+use Rattle.meaning.specs.Spans.{Span}
+use Rattle.meaning.specs.Sound.{SoundSpans, lengthOf}
+use Rattle.meaning.specs.Figure.{figure}
+use Rattle.rules.specs.Limits.{rowNumbers, rowLimit, maskBits, longest}
+use Rattle.rules.specs.Rows.{rowsOf, numbersAt}
+use Rattle.rules.specs.Stretches.{width, needOf}
+use Rattle.rules.specs.declared.numbers.Numbers.{Numbers}
+use Rattle.monitor.specs.declared.record.Record.{Record}
+use Rattle.monitor.specs.Layout.{Laid}
+use Rattle.monitor.specs.Record.{timeLimit, truthAt, heldAt, stretchAt}
+
+-- 1: "table length not a multiple of 5, or rows not 1 to 64" is that this fails.
+pub record LengthRight (table : List ℕ) : Type 0 where
+  pub whole : length table % rowNumbers ≡ 0
+  pub least : 1 ≤ rowsOf table
+  pub most : rowsOf table ≤ rowLimit
+
+-- 2: "kind over 6, x or y not lower, bit over 31, unused not 0" is that none of these is so: the column "used" of the rule table, kind by kind.
+pub data RowRight (row : ℕ) (n : Numbers) : Type 0 where
+  truth : n .kind ≡ 0 → n .x ≡ 0 → n .y ≡ 0 → n .a ≡ 0 → n .b ≡ 0 → RowRight row n
+  bit : n .kind ≡ 1 → n .x < maskBits → n .y ≡ 0 → n .a ≡ 0 → n .b ≡ 0 → RowRight row n
+  negation : n .kind ≡ 2 → n .x < row → n .y ≡ 0 → n .a ≡ 0 → n .b ≡ 0 → RowRight row n
+  both : n .kind ≡ 3 → n .x < row → n .y < row → n .a ≡ 0 → n .b ≡ 0 → RowRight row n
+  either : n .kind ≡ 4 → n .x < row → n .y < row → n .a ≡ 0 → n .b ≡ 0 → RowRight row n
+  previous : n .kind ≡ 5 → n .x < row → n .y ≡ 0 → RowRight row n
+  since : n .kind ≡ 6 → n .x < row → n .y < row → RowRight row n
+
+-- 3: "a or b outside the range above" is that this fails: "a is 0 to 86,400,000; b is a to 86,400,000, or 4,294,967,295 for 'no end'".
+pub record LimitsRight (a b : ℕ) : Type 0 where
+  pub low : a ≤ longest
+  pub high : ((a ≤ b) × (b ≤ longest)) ⊎ (b ≡ noEndNumber)
+
+-- Every row below n is right.
+abbrev pub RowsRight : List ℕ → ℕ → Type 0
+RowsRight table n =
+    (row : ℕ) → row < n → RowRight row (numbersAt table row) × LimitsRight (numbersAt table row .a) (numbersAt table row .b)
+
+pub record TableRight (table : List ℕ) : Type 0 where
+  pub lengths : LengthRight table
+  pub rows : RowsRight table (rowsOf table)
+
+-- The table is right, and 4: "store shorter than the need" is not so.
+pub record Ready (table : List ℕ) (size : ℕ) : Type 0 where
+  pub right : TableRight table
+  pub room : needOf table ≤ size
+
+-- 7: "record not sound" is that this fails. "A record is sound when all of these hold".
+abbrev pub IsSince : Numbers → Type 0
+IsSince n = n .kind ≡ 6
+
+-- "in each stretch: first ≤ last; ..", with t the record's time; "unused words are 0".
+pub record StretchRight (table store : List ℕ) (found : Record) (row : ℕ) : Type 0 where
+  pub spans : List Span
+  pub laid : Laid (width (numbersAt table row)) (stretchAt table store row) (heldAt found row) spans
+  pub sound : SoundSpans (found .time) (found .time + numbersAt table row .a) (found .time +End endOf (numbersAt table row .b))
+      (lengthOf (numbersAt table row .a) (endOf (numbersAt table row .b))) spans
+
+pub record RecordRight (table store : List ℕ) (found : Record) : Type 0 where
+  -- "its row count is the table's; truths past it are false;"
+  pub rows : found .rows ≡ rowsOf table
+  pub past : (row : ℕ) → rowsOf table ≤ row → row < rowLimit → truthAt (found .truths) row ≡ false
+  -- "span counts are 0 except at since rows, and within the row's figure there;"
+  pub others : (row : ℕ) → row < rowLimit → ¬ IsSince (numbersAt table row) → getD (found .counts) row 0 ≡ 0
+  pub within : (row : ℕ)
+      → row < rowLimit
+      → IsSince (numbersAt table row)
+      → getD (found .counts) row 0 ≤ figure (numbersAt table row .a) (endOf (numbersAt table row .b))
+  -- "if no event was seen, time, truths and span counts are 0 or false;"
+  pub unseen-time : found .seen ≡ false → found .time ≡ 0
+  pub unseen-rows : found .seen ≡ false
+      → (row : ℕ)
+      → row < rowLimit
+      → (truthAt (found .truths) row ≡ false) × (getD (found .counts) row 0 ≡ 0)
+  -- "time is at most 281,474,976,710,655;"
+  pub limit : found .time ≤ timeLimit
+  -- "in each stretch: .."
+  pub stretches : (row : ℕ) → row < rowsOf table → IsSince (numbersAt table row) → StretchRight table store found row

@@ -1,0 +1,79 @@
+-- A stream: any list of calls, of any length, with any times, counters and masks, from a good start on a table that passes and a store of any
+-- contents with at least the need. And which of its calls are kept, by their times alone.
+use mathlib.Core.Bool.{Bool, cond, _&&_}
+use mathlib.Core.List.{List, [], _∷_}
+use mathlib.Core.Option.{none}
+use mathlib.Core.Path.{_≡_}
+use Prim.Native.Nat.{ℕ, _≤_}
+use lib.Dec.{leb}
+use Rattle.meaning.specs.FrameTime.{frameTime}
+use Rattle.meaning.specs.History.{Event, History, lastTime}
+use Rattle.monitor.specs.declared.record.Record.{Record}
+use Rattle.monitor.specs.Record.{timeLimit}
+use Rattle.monitor.specs.Start.{startOf}
+use Rattle.monitor.specs.Step.{Setup, Call, event, frame, maskOf, Outcome, stepOf}
+
+-- What the monitor works on between two calls.
+pub record State : Type 0 where
+  pub found : Record
+  pub store : List ℕ
+
+abbrev pub setupOf : List ℕ → Setup
+setupOf table = record { table = table }
+
+-- One call of the stream, and what it leaves.
+abbrev pub call : List ℕ → State → Call → Outcome
+call table s c = stepOf (setupOf table) (s .store) (s .found) c
+
+abbrev pub next : List ℕ → State → Call → State
+next table s c = record { found = call table s c .left; store = call table s c .store }
+
+-- The state after a list of calls, the oldest first.
+unfoldable pub after : List ℕ → State → List Call → State
+after table s [] = s
+after table s (c ∷ calls) = after table (next table s c) calls
+
+-- "From a start": the table passes and the store has room for the need.
+abbrev pub Starts : List ℕ → List ℕ → Type 0
+Starts table store = startOf table store .refusal ≡ none
+
+abbrev pub started : List ℕ → List ℕ → State
+started table store = record { found = startOf table store .given; store = startOf table store .store }
+
+-- The time of a call, where the last kept event was at `last` (0 before any).
+abbrev pub callTime : ℕ → Call → ℕ
+callTime last (event time mask) = time
+callTime last (frame counter mask) = frameTime last counter
+
+-- A call is kept when its time is at most the limit and not below the last kept event's.
+pub record Keeps (last : ℕ) (c : Call) : Type 0 where
+  pub within : callTime last c ≤ timeLimit
+  pub risen : last ≤ callTime last c
+
+abbrev pub keeps? : ℕ → Call → Bool
+keeps? last c = leb (callTime last c) timeLimit && leb last (callTime last c)
+
+abbrev pub eventOf : ℕ → Call → Event
+eventOf last c = record { time = callTime last c; mask = maskOf c }
+
+-- The kept events of a list of calls, the newest first, after those of a history.
+unfoldable pub kept : History → List Call → History
+kept h [] = h
+kept h (c ∷ calls) = kept (cond (keeps? (lastTime h) c) (eventOf (lastTime h) c ∷ h) h) calls
+
+-- What is known of a stream so far: the monitor's state, the kept events, and the clock, which today is the last kept time.
+abbrev pub state : List ℕ → List ℕ → List Call → State
+state table store calls = after table (started table store) calls
+
+abbrev pub history : List Call → History
+history calls = kept [] calls
+
+abbrev pub clock : List Call → ℕ
+clock calls = lastTime (history calls)
+
+-- One call more: what it answers and leaves, and the history where it is kept.
+abbrev pub outcome : List ℕ → List ℕ → List Call → Call → Outcome
+outcome table store calls c = call table (state table store calls) c
+
+abbrev pub longer : List Call → Call → History
+longer calls c = eventOf (clock calls) c ∷ history calls
