@@ -1,0 +1,147 @@
+//! The second reference: soundness and the one-event rules written out, for any table, store and record, reached or not.
+
+use crate::board::{Answer, Call, Checked, Record, Started};
+use crate::lines::time_of;
+use crate::table::{self, Formula, Interval, Refusal, ROW_LIMIT, TIME_LIMIT};
+
+/// The stored last of a span without end.
+pub const NO_LAST: u64 = 18_446_744_073_709_551_615;
+
+/// The since rows, each with its interval and the place of its stretch in the store.
+pub fn stretches(rows: &[Formula]) -> Vec<(usize, Interval, usize)> {
+    let mut place = 0;
+    let mut stretches = Vec::new();
+    for (row, formula) in rows.iter().enumerate() {
+        if let Formula::Since(_, _, interval) = *formula {
+            stretches.push((row, interval, place));
+            place += 2 * interval.spans() as usize;
+        }
+    }
+    stretches
+}
+
+/// Soundness of one stretch, `words`, with so many spans at the time t.
+fn sound_stretch(interval: Interval, words: &[u64], count: u32, t: u64) -> bool {
+    if count as u64 > interval.spans() {
+        return false;
+    }
+    let (used, unused) = words.split_at(2 * count as usize);
+    let spans: Vec<(u128, u128)> = used.chunks(2).map(|span| (span[0] as u128, span[1] as u128)).collect();
+    let (t, a) = (t as u128, interval.a as u128);
+    let each = spans.iter().all(|&(first, last)| match interval.b.map(u128::from) {
+        Some(b) => first <= last && t <= first && last <= t + b && (first == t || last - first >= b - a),
+        None => t <= first && first <= t + a && last == NO_LAST as u128,
+    });
+    let apart = spans.windows(2).all(|pair| pair[0].1 + 2 <= pair[1].0);
+    each && apart && unused.iter().all(|&word| word == 0)
+}
+
+fn sound(rows: &[Formula], store: &[u64], record: &Record) -> bool {
+    let stretches = stretches(rows);
+    let owns = |row: usize| stretches.iter().any(|&(owner, _, _)| owner == row);
+    let no_event = record.time == 0 && record.truths == [0; ROW_LIMIT] && record.counts == [0; ROW_LIMIT];
+    record.seen <= 1
+        && record.truths.iter().all(|&truth| truth <= 1)
+        && record.rows as usize == rows.len()
+        && record.truths[rows.len()..].iter().all(|&truth| truth == 0)
+        && (0..ROW_LIMIT).all(|row| owns(row) || record.counts[row] == 0)
+        && (record.seen == 1 || no_event)
+        && record.time <= TIME_LIMIT
+        && stretches.iter().all(|&(row, interval, place)| {
+            let words = &store[place..place + 2 * interval.spans() as usize];
+            sound_stretch(interval, words, record.counts[row], record.time)
+        })
+}
+
+/// The span t+a to t+b joined into spans, all of which are clipped at t.
+fn join(spans: &mut Vec<(u64, u64)>, span: (u64, u64)) {
+    spans.push(span);
+    spans.sort();
+    let mut joined: Vec<(u64, u64)> = Vec::new();
+    for &(first, last) in spans.iter() {
+        match joined.last_mut() {
+            Some(former) if first <= former.1.saturating_add(1) => former.1 = former.1.max(last),
+            _ => joined.push((first, last)),
+        }
+    }
+    *spans = joined;
+}
+
+/// One event, rows rising, on a sound record.
+fn step(rows: &[Formula], store: &mut [u64], record: &mut Record, t: u64, mask: u32) -> bool {
+    let before = *record;
+    let mut truths = [false; ROW_LIMIT];
+    let mut places = stretches(rows).into_iter();
+    for (row, formula) in rows.iter().enumerate() {
+        truths[row] = match *formula {
+            Formula::True => true,
+            Formula::Bit(bit) => mask & 1 << bit != 0,
+            Formula::Not(x) => !truths[x],
+            Formula::And(x, y) => truths[x] & truths[y],
+            Formula::Or(x, y) => truths[x] | truths[y],
+            Formula::Previous(x, interval) => before.seen == 1 && before.truths[x] == 1 && interval.has(t - before.time),
+            Formula::Since(x, y, interval) => {
+                let (_, _, place) = places.next().unwrap();
+                let words = &mut store[place..place + 2 * interval.spans() as usize];
+                let held = words.chunks(2).take(before.counts[row] as usize);
+                let mut spans: Vec<(u64, u64)> = held.filter(|span| span[1] >= t).map(|span| (span[0].max(t), span[1])).collect();
+                if !truths[x] {
+                    spans.clear();
+                }
+                if truths[y] {
+                    join(&mut spans, (t + interval.a, interval.b.map_or(NO_LAST, |b| t + b)));
+                }
+                words.fill(0);
+                for (place, &(first, last)) in spans.iter().enumerate() {
+                    words[2 * place] = first;
+                    words[2 * place + 1] = last;
+                }
+                record.counts[row] = spans.len() as u32;
+                spans.iter().any(|&(first, last)| first <= t && t <= last)
+            }
+        };
+        record.truths[row] = truths[row] as u8;
+    }
+    record.seen = 1;
+    record.time = t;
+    truths[rows.len() - 1]
+}
+
+pub fn check(rules: &[u32]) -> Checked {
+    match table::check(rules) {
+        Err(Refusal { number, row }) => Checked { number, row, rows: 0, need: 0 },
+        Ok(rows) => Checked { number: 0, row: 0, rows: rows.len() as u32, need: table::need(&rows) },
+    }
+}
+
+pub fn start(rules: &[u32], store: &mut [u64]) -> Started {
+    match table::ready(rules, store.len()) {
+        Err(Refusal { number, row }) => Started { number, row, record: Record::ZERO },
+        Ok(rows) => {
+            store[..table::need(&rows) as usize].fill(0);
+            Started { number: 0, row: 0, record: Record { rows: rows.len() as u32, ..Record::ZERO } }
+        }
+    }
+}
+
+pub fn call(rules: &[u32], store: &mut [u64], record: &mut Record, call: Call) -> Answer {
+    let rows = match table::ready(rules, store.len()) {
+        Err(refusal) => return Answer::refused(refusal),
+        Ok(rows) => rows,
+    };
+    let refused = |number| Answer::refused(Refusal { number, row: 0 });
+    if !sound(&rows, store, record) {
+        return refused(7);
+    }
+    let (time, mask) = match call {
+        Call::Event { time, mask } => (time, mask),
+        Call::Frame { counter, mask } => (time_of(record.time, counter), mask),
+    };
+    if time > TIME_LIMIT {
+        return refused(6);
+    }
+    if time < record.time {
+        return refused(5);
+    }
+    Answer::judged(step(&rows, store, record, time, mask))
+}

@@ -1,0 +1,245 @@
+//! Inputs, from a fixed seed: tables, times, masks, sound records that no stream reaches, texts, and damage to each.
+
+use crate::any_record::{stretches, NO_LAST};
+use crate::board::{Call, Record};
+use crate::table::{self, Formula, Interval, BITS, LONGEST, NO_END, ROW_LIMIT, TIME_LIMIT};
+
+/// A generator of numbers (splitmix64).
+pub struct Random(u64);
+
+impl Random {
+    pub fn new(seed: u64) -> Random {
+        Random(seed)
+    }
+
+    pub fn word(&mut self) -> u64 {
+        self.0 = self.0.wrapping_add(0x9E37_79B9_7F4A_7C15);
+        let mut z = self.0;
+        z = (z ^ z >> 30).wrapping_mul(0xBF58_476D_1CE4_E5B9);
+        z = (z ^ z >> 27).wrapping_mul(0x94D0_49BB_1331_11EB);
+        z ^ z >> 31
+    }
+
+    /// A number below n.
+    pub fn below(&mut self, n: u64) -> u64 {
+        self.word() % n
+    }
+
+    /// A number from low to high.
+    pub fn between(&mut self, low: u64, high: u64) -> u64 {
+        low + self.below(high - low + 1)
+    }
+
+    /// Yes once in n times.
+    pub fn once_in(&mut self, n: u64) -> bool {
+        self.below(n) == 0
+    }
+
+    pub fn pick<T: Copy>(&mut self, of: &[T]) -> T {
+        of[self.below(of.len() as u64) as usize]
+    }
+}
+
+/// The bits that rules and masks use most.
+const BUSY_BITS: u64 = 3;
+
+/// Limits that pass, mostly short ones, so that many events fall at their ends.
+fn limits(random: &mut Random) -> (u32, u32) {
+    let far = [(100, 200), (20, 20), (600, 600), (0, LONGEST), (40_000_000, LONGEST), (LONGEST, NO_END), (1000, NO_END), (65_530, 65_545)];
+    match random.below(12) {
+        0 => random.pick(&far),
+        1 => (0, 0),
+        2 | 3 => (random.below(8) as u32, NO_END),
+        4 | 5 => {
+            let a = random.below(12) as u32;
+            (a, a)
+        }
+        _ => {
+            let a = random.below(8) as u32;
+            (a, a + random.below(6) as u32)
+        }
+    }
+}
+
+/// A table that passes the check.
+pub fn table(random: &mut Random) -> Vec<u32> {
+    let rows = if random.once_in(40) { random.between(1, ROW_LIMIT as u64) } else { random.between(1, 10) };
+    let mut table = Vec::new();
+    for row in 0..rows {
+        let bit = if random.once_in(8) { random.below(BITS as u64) } else { random.below(BUSY_BITS) } as u32;
+        let kind = if row == 0 { random.below(2) } else { random.pick(&[0, 1, 1, 2, 3, 4, 5, 5, 6, 6, 6, 6]) };
+        let [x, y] = [(); 2].map(|_| if row == 0 { 0 } else { random.below(row) as u32 });
+        let (a, b) = limits(random);
+        table.extend(match kind {
+            0 => [0, 0, 0, 0, 0],
+            1 => [1, bit, 0, 0, 0],
+            2 => [2, x, 0, 0, 0],
+            3 | 4 => [kind as u32, x, y, 0, 0],
+            5 => [5, x, 0, a, b],
+            _ => [6, x, y, a, b],
+        });
+    }
+    table
+}
+
+/// One number of a table changed, or its length.
+pub fn damage_table(random: &mut Random, table: &mut Vec<u32>) {
+    let place = random.below(table.len() as u64) as usize;
+    match random.below(8) {
+        0 => table.truncate(place),
+        1 => {
+            let zeros = random.between(1, 5 * (ROW_LIMIT as u64 + 2)) as usize;
+            table.extend(vec![0; zeros]);
+        }
+        2 => {
+            let multiple = 5 * random.between(ROW_LIMIT as u64 - 1, ROW_LIMIT as u64 + 2) as usize;
+            table.resize(multiple, 0);
+        }
+        3 => table[place] = random.pick(&[7, BITS - 1, BITS, LONGEST, LONGEST + 1, NO_END - 1, NO_END]),
+        4 => table[place] = random.word() as u32,
+        5 => table[place] = (place / 5) as u32,
+        _ => table[place] = table[place].wrapping_add(random.pick(&[1, u32::MAX])),
+    }
+}
+
+/// Words of any content.
+pub fn words(random: &mut Random, count: u64) -> Vec<u64> {
+    (0..count).map(|_| if random.once_in(2) { random.word() } else { random.pick(&[0, 1, u64::MAX]) }).collect()
+}
+
+/// A call after the time `last`: equal times, times near the limits of the rows, times below and over the limit.
+pub fn call(random: &mut Random, last: u64) -> Call {
+    let mask = if random.once_in(20) { random.word() as u32 } else { random.below(1 << BUSY_BITS) as u32 };
+    if random.once_in(3) {
+        let (short, long) = (random.below(20), random.below(65_536));
+        let gap = random.pick(&[0, 1, 1, 2, 3, short, long]);
+        return Call::Frame { counter: (last.wrapping_add(gap)) as u16, mask };
+    }
+    let any = random.word();
+    let time = match random.below(16) {
+        0..=3 => last,
+        4..=10 => last.wrapping_add(random.between(1, 4)),
+        11 | 12 => last.wrapping_add(random.below(24)),
+        13 => last.wrapping_add(random.pick(&[100, 200, 600, 1000, LONGEST as u64, LONGEST as u64 + 1, 65_536, 65_546])),
+        14 => last.saturating_sub(random.between(1, 3)),
+        _ => random.pick(&[last, last, TIME_LIMIT, TIME_LIMIT + 1, u64::MAX, any]),
+    };
+    Call::Event { time, mask }
+}
+
+/// A time to begin at: small, or near the limit.
+pub fn base(random: &mut Random) -> u64 {
+    match random.below(6) {
+        0 => TIME_LIMIT - random.below(60),
+        1 => random.below(TIME_LIMIT),
+        2 => 65_536 - random.below(10),
+        _ => random.below(20),
+    }
+}
+
+/// Spans that are sound at t, of at most the row's figure.
+fn sound_spans(random: &mut Random, interval: Interval, t: u64) -> Vec<(u64, u64)> {
+    let mut spans = Vec::new();
+    let Some(b) = interval.b else {
+        if random.once_in(2) {
+            spans.push((random.between(t, t + interval.a), NO_LAST));
+        }
+        return spans;
+    };
+    let latest_first = t + interval.a;
+    let mut lowest = t;
+    if random.once_in(2) {
+        let last = if random.once_in(2) { t + random.below(3).min(b) } else { random.between(t, t + b) };
+        spans.push((t, last));
+        lowest = last + 2;
+    } else {
+        lowest += 1;
+    }
+    while lowest <= latest_first && (spans.len() as u64) < interval.spans() && !random.once_in(5) {
+        let first = lowest + if random.once_in(2) { 0 } else { random.below((latest_first - lowest + 1).min(4)) };
+        let shortest = first + (b - interval.a);
+        let last = if random.once_in(3) { random.between(shortest, t + b) } else { shortest };
+        spans.push((first, last));
+        lowest = last + 2;
+    }
+    spans
+}
+
+/// A sound record of a table, which perhaps no stream reaches, with its store.
+pub fn sound_record(random: &mut Random, rows: &[Formula], spare: u64) -> (Record, Vec<u64>) {
+    let mut record = Record { rows: rows.len() as u32, ..Record::ZERO };
+    let mut store = vec![0; table::need(rows) as usize];
+    store.extend(words(random, spare));
+    if random.once_in(10) {
+        return (record, store);
+    }
+    record.seen = 1;
+    record.time = base(random);
+    for truth in &mut record.truths[..rows.len()] {
+        *truth = random.below(2) as u8;
+    }
+    for (row, interval, place) in stretches(rows) {
+        let spans = sound_spans(random, interval, record.time);
+        record.counts[row] = spans.len() as u32;
+        for (index, (first, last)) in spans.into_iter().enumerate() {
+            store[place + 2 * index] = first;
+            store[place + 2 * index + 1] = last;
+        }
+    }
+    (record, store)
+}
+
+/// One field of a record or one word of a store changed.
+pub fn damage_record(random: &mut Random, record: &mut Record, store: &mut [u64]) {
+    let rows = (record.rows as usize).clamp(1, ROW_LIMIT);
+    let row = if random.once_in(8) { random.below(ROW_LIMIT as u64) } else { random.below(rows as u64) } as usize;
+    let near = random.pick(&[1, 1, 2, u64::MAX, u64::MAX, u64::MAX - 1]);
+    match random.below(if store.is_empty() { 7 } else { 16 }) {
+        0 => record.seen = random.pick(&[0, 1, 2, 255]),
+        1 => record.time = random.pick(&[0, TIME_LIMIT, TIME_LIMIT + 1, u64::MAX, record.time.wrapping_add(near)]),
+        2 => record.rows = random.pick(&[0, 64, 65, u32::MAX, record.rows.wrapping_add(near as u32)]),
+        3 | 4 => record.truths[row] = random.pick(&[0, 1, 2, 128, 255]),
+        5 | 6 => record.counts[row] = random.pick(&[0, 1, u32::MAX, record.counts[row].wrapping_add(near as u32)]),
+        7 => {
+            let (place, any) = (random.below(store.len() as u64) as usize, random.word());
+            store[place] = random.pick(&[0, 1, NO_LAST, record.time, any]);
+        }
+        _ => {
+            let used: Vec<usize> = (0..store.len()).filter(|&place| store[place] != 0).collect();
+            let place = if used.is_empty() { random.below(store.len() as u64) as usize } else { random.pick(&used) };
+            store[place] = store[place].wrapping_add(near);
+        }
+    }
+}
+
+fn frame(random: &mut Random) -> Vec<u8> {
+    let bytes: Vec<u8> = (0..6).map(|_| random.word() as u8).collect();
+    let sum = bytes.iter().fold(0u8, |sum, &byte| sum.wrapping_add(byte));
+    let mut line: Vec<u8> = bytes.iter().chain([&sum]).flat_map(|byte| format!("{byte:02X}").into_bytes()).collect();
+    line.push(b'\n');
+    line
+}
+
+/// A text of frames, some of them damaged, often cut at its end.
+pub fn text(random: &mut Random) -> Vec<u8> {
+    let mut text = Vec::new();
+    for _ in 0..random.below(6) {
+        let mut line = frame(random);
+        let place = random.below(line.len() as u64) as usize;
+        match random.below(10) {
+            0 => line[place] = random.pick(b"0123456789ABCDEF"),
+            1 => line[place] = random.pick(b"\n\r /:@G`af\x00\xFF"),
+            2 => {
+                line.remove(place);
+            }
+            3 => line.insert(place, random.pick(b"0F\n\n ")),
+            4 => line.truncate(place),
+            _ => {}
+        }
+        text.extend(line);
+    }
+    if random.once_in(3) {
+        text.truncate(random.below(text.len() as u64 + 1) as usize);
+    }
+    text
+}

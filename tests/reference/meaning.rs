@@ -1,0 +1,121 @@
+//! The first reference: a monitor straight from the meaning, for records reached from a start. It keeps every accepted event and no spans;
+//! verdicts, records and the words of the store are computed from the whole history each time.
+
+use crate::board::{Answer, Call, Record};
+use crate::lines::time_of;
+use crate::table::{Formula, Interval, Refusal, TIME_LIMIT};
+
+struct Event {
+    time: u64,
+    truths: Vec<bool>,
+}
+
+/// The accepted events since a start, oldest first.
+pub struct History {
+    rows: Vec<Formula>,
+    events: Vec<Event>,
+}
+
+impl History {
+    pub fn start(rows: Vec<Formula>) -> History {
+        History { rows, events: Vec::new() }
+    }
+
+    fn time(&self) -> u64 {
+        self.events.last().map_or(0, |event| event.time)
+    }
+
+    pub fn call(&mut self, call: Call) -> Answer {
+        let (time, mask) = match call {
+            Call::Event { time, mask } => (time, mask),
+            Call::Frame { counter, mask } => (time_of(self.time(), counter), mask),
+        };
+        if time > TIME_LIMIT {
+            return Answer::refused(Refusal { number: 6, row: 0 });
+        }
+        if time < self.time() {
+            return Answer::refused(Refusal { number: 5, row: 0 });
+        }
+        self.events.push(Event { time, truths: Vec::new() });
+        for row in 0..self.rows.len() {
+            let truth = self.holds(row, mask);
+            self.events.last_mut().unwrap().truths.push(truth);
+        }
+        Answer::judged(*self.events.last().unwrap().truths.last().unwrap())
+    }
+
+    /// Whether a row holds at the newest event, at which all lower rows are known.
+    fn holds(&self, row: usize, mask: u32) -> bool {
+        let (now, before) = self.events.split_last().unwrap();
+        match self.rows[row] {
+            Formula::True => true,
+            Formula::Bit(bit) => mask >> bit & 1 == 1,
+            Formula::Not(x) => !now.truths[x],
+            Formula::And(x, y) => now.truths[x] && now.truths[y],
+            Formula::Or(x, y) => now.truths[x] || now.truths[y],
+            Formula::Previous(x, interval) => before.last().is_some_and(|event| event.truths[x] && interval.has(now.time - event.time)),
+            Formula::Since(x, y, interval) => self.reached(&self.starts(x, y), interval, now.time),
+        }
+    }
+
+    /// The times of the events at which y is true and after which x is true at every event.
+    fn starts(&self, x: usize, y: usize) -> Vec<u64> {
+        let mut starts = Vec::new();
+        for event in self.events.iter().rev() {
+            if event.truths[y] {
+                starts.push(event.time);
+            }
+            if !event.truths[x] {
+                break;
+            }
+        }
+        starts
+    }
+
+    /// Whether u, which is not below the newest event's time, lies in [a,b] from some start.
+    fn reached(&self, starts: &[u64], interval: Interval, u: u64) -> bool {
+        starts.iter().any(|start| interval.has(u - start))
+    }
+
+    /// The maximal runs of reached values from the newest event's time on, rising. A run begins at that time or a after a start and ends b after one.
+    fn runs(&self, x: usize, y: usize, interval: Interval) -> Vec<(u64, u64)> {
+        let now = self.time();
+        let starts = self.starts(x, y);
+        let reached = |u: u64| u >= now && self.reached(&starts, interval, u);
+        let mut firsts: Vec<u64> = starts.iter().map(|start| start + interval.a).chain([now]).collect();
+        firsts.retain(|&u| reached(u) && (u == now || !reached(u - 1)));
+        let mut lasts: Vec<u64> = match interval.b {
+            Some(b) => starts.iter().map(|start| start + b).filter(|&u| reached(u) && !reached(u + 1)).collect(),
+            None => starts.iter().map(|_| u64::MAX).collect(),
+        };
+        for ends in [&mut firsts, &mut lasts] {
+            ends.sort();
+            ends.dedup();
+        }
+        assert_eq!(firsts.len(), lasts.len());
+        firsts.into_iter().zip(lasts).collect()
+    }
+
+    /// The record, and the words of the store up to the need.
+    pub fn record_and_words(&self) -> (Record, Vec<u64>) {
+        let mut record = Record { rows: self.rows.len() as u32, time: self.time(), ..Record::ZERO };
+        let mut words = Vec::new();
+        if let Some(event) = self.events.last() {
+            record.seen = 1;
+            for (row, &truth) in event.truths.iter().enumerate() {
+                record.truths[row] = truth as u8;
+            }
+        }
+        for (row, formula) in self.rows.iter().enumerate() {
+            if let Formula::Since(x, y, interval) = *formula {
+                let runs = self.runs(x, y, interval);
+                record.counts[row] = runs.len() as u32;
+                let end = words.len() + 2 * interval.spans() as usize;
+                words.extend(runs.iter().flat_map(|&(first, last)| [first, last]));
+                assert!(words.len() <= end, "more runs than the figure");
+                words.resize(end, 0);
+            }
+        }
+        (record, words)
+    }
+}

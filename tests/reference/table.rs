@@ -1,0 +1,112 @@
+//! The rule table of document 01: the limits, the formula of each row, the check, spans and need.
+
+pub const ROW_LIMIT: usize = 64;
+pub const BITS: u32 = 32;
+pub const LONGEST: u32 = 86_400_000;
+pub const NO_END: u32 = 4_294_967_295;
+pub const TIME_LIMIT: u64 = 281_474_976_710_655;
+
+const NUMBERS: usize = 5;
+
+/// A refusal by its number, and the row that it gives or 0.
+#[derive(Clone, Copy, PartialEq, Debug)]
+pub struct Refusal {
+    pub number: u32,
+    pub row: u32,
+}
+
+/// [a,b]; no b where there is no end.
+#[derive(Clone, Copy, Debug)]
+pub struct Interval {
+    pub a: u64,
+    pub b: Option<u64>,
+}
+
+impl Interval {
+    pub fn has(&self, age: u64) -> bool {
+        self.a <= age && self.b.map_or(true, |b| age <= b)
+    }
+
+    /// "floor(b/(b-a+2))+1 spans, or 1 when b has no end".
+    pub fn spans(&self) -> u64 {
+        self.b.map_or(1, |b| b / (b - self.a + 2) + 1)
+    }
+}
+
+/// A row. The rows that it names are lower.
+#[derive(Clone, Copy, Debug)]
+pub enum Formula {
+    True,
+    Bit(u32),
+    Not(usize),
+    And(usize, usize),
+    Or(usize, usize),
+    Previous(usize, Interval),
+    Since(usize, usize, Interval),
+}
+
+/// Which of x, y and the limits a kind uses.
+fn uses(kind: u32) -> (bool, bool, bool) {
+    match kind {
+        0 => (false, false, false),
+        1 | 2 => (true, false, false),
+        3 | 4 => (true, true, false),
+        5 => (true, false, true),
+        _ => (true, true, true),
+    }
+}
+
+fn row(numbers: &[u32], index: usize) -> Result<Formula, u32> {
+    let [kind, x, y, a, b] = numbers.try_into().unwrap();
+    if kind > 6 {
+        return Err(2);
+    }
+    let (uses_x, uses_y, uses_limits) = uses(kind);
+    let x_passes = match (uses_x, kind) {
+        (false, _) => x == 0,
+        (true, 1) => x < BITS,
+        (true, _) => (x as usize) < index,
+    };
+    let y_passes = if uses_y { (y as usize) < index } else { y == 0 };
+    if !x_passes || !y_passes || !uses_limits && (a != 0 || b != 0) {
+        return Err(2);
+    }
+    if uses_limits && (a > LONGEST || b < a || b > LONGEST && b != NO_END) {
+        return Err(3);
+    }
+    let interval = Interval { a: a as u64, b: if b == NO_END { None } else { Some(b as u64) } };
+    let (x, y) = (x as usize, y as usize);
+    Ok(match kind {
+        0 => Formula::True,
+        1 => Formula::Bit(x as u32),
+        2 => Formula::Not(x),
+        3 => Formula::And(x, y),
+        4 => Formula::Or(x, y),
+        5 => Formula::Previous(x, interval),
+        _ => Formula::Since(x, y, interval),
+    })
+}
+
+/// Refusals 1 to 3, or the rows.
+pub fn check(table: &[u32]) -> Result<Vec<Formula>, Refusal> {
+    let count = table.len() / NUMBERS;
+    if table.len() % NUMBERS != 0 || count == 0 || count > ROW_LIMIT {
+        return Err(Refusal { number: 1, row: 0 });
+    }
+    let rows = table.chunks(NUMBERS).enumerate();
+    rows.map(|(index, numbers)| row(numbers, index).map_err(|number| Refusal { number, row: index as u32 })).collect()
+}
+
+pub fn need(rows: &[Formula]) -> u64 {
+    let words = |row: &Formula| if let Formula::Since(_, _, interval) = row { 2 * interval.spans() } else { 0 };
+    rows.iter().map(words).sum()
+}
+
+/// Refusals 1 to 4, or the rows.
+pub fn ready(table: &[u32], store: usize) -> Result<Vec<Formula>, Refusal> {
+    let rows = check(table)?;
+    if (store as u64) < need(&rows) {
+        return Err(Refusal { number: 4, row: 0 });
+    }
+    Ok(rows)
+}

@@ -1,0 +1,183 @@
+"""The board's rule table and text lines (document 01), as the scripts of this folder share them.
+
+A rule is five numbers: kind, x, y, a, b. A rule line is these in 24 hexadecimal digits with their sum, a frame line is a counter and a mask in 14.
+"""
+
+import argparse
+import re
+import sys
+from collections import namedtuple
+
+ROW_LIMIT = 64
+BITS = 32
+LONGEST = 86_400_000
+NO_END = 4_294_967_295
+PROGRAM_STORE = 8_192
+TURN = 65_536
+
+RULE_WIDTHS = (1, 1, 1, 4, 4)
+FRAME_WIDTHS = (2, 4)
+
+Rule = namedtuple("Rule", "kind x y a b")
+
+# What a number of a rule is used as.
+UNUSED, BIT, LOWER = "unused", "bit", "lower row"
+
+# A kind's name, what x and y are used as, whether a and b are used, whether a row of the kind owns spans, and what it means.
+Kind = namedtuple("Kind", "name x y limits spans meaning")
+KINDS = (
+    Kind("true", UNUSED, UNUSED, False, False, "true at every event"),
+    Kind("bit", BIT, UNUSED, False, False, "bit {x} of the mask is set"),
+    Kind("not", LOWER, UNUSED, False, False, "row {x} is false"),
+    Kind("and", LOWER, LOWER, False, False, "rows {x} and {y} are both true"),
+    Kind("or", LOWER, LOWER, False, False, "row {x} or row {y} is true"),
+    Kind("previous", LOWER, UNUSED, True, False, "row {x} was true at the event before, {ago}"),
+    Kind("since", LOWER, LOWER, True, True, "row {y} was true {ago}, and row {x} at every event since"),
+)
+
+
+class Refused(Exception):
+    """What the program refuses, with the line that it writes."""
+
+    def __init__(self, place, number, row, reason):
+        super().__init__(f"{place}: refused {number}: {reason} (the program writes EE{number:02X}{row:02X})")
+
+
+class OutOfRange(Exception):
+    """A number that a line has no room for."""
+
+
+def number(word):
+    """The number that a word says, in decimal or after 0x."""
+    if re.fullmatch(r"-?[0-9]+", word):
+        return int(word)
+    if re.fullmatch(r"0x[0-9A-Fa-f]+", word):
+        return int(word, 16)
+    raise argparse.ArgumentTypeError(f"'{word}' is no number; write it in decimal, or in hexadecimal after 0x")
+
+
+def line(names, numbers, widths):
+    """The line of these numbers, each in so many bytes, with its sum."""
+    data = b""
+    for name, value, width in zip(names, numbers, widths):
+        if not 0 <= value < 256**width:
+            raise OutOfRange(f"{name}: {value} is outside 0 to {256**width - 1}")
+        data += value.to_bytes(width, "big")
+    return (data + bytes([sum(data) % 256])).hex().upper()
+
+
+def rule_line(rule):
+    return line(Rule._fields, rule, RULE_WIDTHS)
+
+
+def frame_line(counter, mask):
+    return line(("counter", "mask"), (counter, mask), FRAME_WIDTHS)
+
+
+def read_rule(text, index):
+    """The rule in a line that is given with its line feed; lines are counted from 0."""
+    place = f"line {index + 1}"
+    size = 2 * (sum(RULE_WIDTHS) + 1)
+    if not re.fullmatch(rb"[0-9A-F]{%d}\n" % size, text):
+        raise Refused(place, 8, index, f"not {size} digits 0-9 A-F and a line feed")
+    data = bytes.fromhex(text.decode())
+    if sum(data[:-1]) % 256 != data[-1]:
+        raise Refused(place, 9, index, f"the sum is {sum(data[:-1]) % 256:02X}, and the line says {data[-1]:02X}")
+    numbers, start = [], 0
+    for width in RULE_WIDTHS:
+        numbers.append(int.from_bytes(data[start : start + width], "big"))
+        start += width
+    return Rule(*numbers)
+
+
+def read_table(text):
+    """The rules up to the empty line or to the text's end, and whether there is an empty line."""
+    rules = []
+    for index, content in enumerate(re.findall(rb"[^\n]*\n|[^\n]+", text)):
+        if content == b"\n":
+            return rules, True
+        if index == ROW_LIMIT:
+            raise Refused(f"line {index + 1}", 1, 0, f"a table has at most {ROW_LIMIT} rows")
+        rules.append(read_rule(content, index))
+    return rules, False
+
+
+def form_fault(rule, row):
+    """Why refusal 2 holds of a row, or None."""
+    if rule.kind >= len(KINDS):
+        return f"there is no kind {rule.kind}; kinds are 0 to {len(KINDS) - 1}"
+    kind = KINDS[rule.kind]
+    for name, use in (("x", kind.x), ("y", kind.y)):
+        value = getattr(rule, name)
+        if use == UNUSED and value != 0:
+            return f"'{kind.name}' does not use {name}, so it must be 0, and it is {value}"
+        if use == BIT and value >= BITS:
+            return f"{name} is bit {value}; bits are 0 to {BITS - 1}"
+        if use == LOWER and value >= row:
+            return f"{name} names row {value}; a row may name only lower rows"
+    if not kind.limits and (rule.a, rule.b) != (0, 0):
+        return f"'{kind.name}' does not use a and b, so they must be 0"
+    return None
+
+
+def limits_fault(rule, _):
+    """Why refusal 3 holds of a row that passes 2, or None."""
+    if rule.a > LONGEST:
+        return f"a is {rule.a}; it may be 0 to {LONGEST}"
+    if rule.b != NO_END and rule.b > LONGEST:
+        return f"b is {rule.b}; it may be a to {LONGEST}, or no end"
+    if rule.b < rule.a:
+        return f"b is {rule.b}, below a, which is {rule.a}"
+    return None
+
+
+def check_row(rule, row):
+    """Refuses what the table check refuses of a row."""
+    for refusal, fault in ((2, form_fault), (3, limits_fault)):
+        reason = fault(rule, row)
+        if reason is not None:
+            raise Refused(f"row {row}", refusal, row, reason)
+
+
+def spans(rule):
+    """How many spans a row that passes the check may need."""
+    if not KINDS[rule.kind].spans:
+        return 0
+    if rule.b == NO_END:
+        return 1
+    return rule.b // (rule.b - rule.a + 2) + 1
+
+
+def ago(a, b):
+    """The interval [a,b] in words."""
+    if a == b:
+        return f"exactly {a} ms ago"
+    if b == NO_END:
+        return f"{a} ms ago or longer" if a else "at any time"
+    return f"{a} to {b} ms ago" if a else f"at most {b} ms ago"
+
+
+def meaning(rule):
+    """What a row that passes the check means, in words."""
+    return KINDS[rule.kind].meaning.format(x=rule.x, y=rule.y, ago=ago(rule.a, rule.b))
+
+
+def lower_rows(rule):
+    """The rows that a row names."""
+    kind = KINDS[rule.kind]
+    return [value for value, use in ((rule.x, kind.x), (rule.y, kind.y)) if use == LOWER]
+
+
+def unreached(rules):
+    """The rows that the last row does not reach."""
+    reached = {len(rules) - 1}
+    for row in range(len(rules) - 1, -1, -1):
+        if row in reached:
+            reached.update(lower_rows(rules[row]))
+    return [row for row in range(len(rules)) if row not in reached]
+
+
+def stop(script, status, message):
+    """Ends a script with a message in words."""
+    print(f"{script}: {message}", file=sys.stderr)
+    sys.exit(status)
