@@ -15,8 +15,9 @@ fail() {
 # fresh COMMANDS: a repository with nothing built, and a kit whose `rt` runs COMMANDS.
 fresh() {
     rm -rf "$work/repo" "$work/kit"
-    mkdir -p "$work/repo/crates/muktrashi/src" "$work/kit"
+    mkdir -p "$work/repo/crates/muktrashi/src" "$work/repo/tools" "$work/kit"
     cp judge "$work/repo/"
+    cp tools/run "$work/repo/tools/"
     printf 'muktrashi:\n' >"$work/repo/crates.txt"
     printf '#!/usr/bin/env bash\n%s\n' "$1" >"$work/kit/rt"
     chmod +x "$work/kit/rt"
