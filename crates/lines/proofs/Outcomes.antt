@@ -1,15 +1,12 @@
 -- Any two outcomes that the contract of a public function allows are the same. What an answer says can be undone, so equal sayings come
 -- from equal answers.
-use mathlib.Core.Bool.{Bool, cond}
+use mathlib.Core.Bool.{Bool}
 use mathlib.Core.List.{List}
 use mathlib.Core.Path.{_≡_, refl, sym, ap, _∙_}
 use Prim.Native.Nat.{ℕ}
-use lib.Dec.{eqb}
 use lib.ListN.{getD}
 use denote.Ref.{now}
-use Rattle.rules.specs.declared.refusal.Refusal.{Refusal}
-use Rattle.rules.specs.declared.refusal.Refusal.the-variants.{Length, Row, Limits, Store, Earlier, Late, Record, Line, Sum}
-use Rattle.rules.specs.Refusals.{Refused, refused, firstOf}
+use Rattle.rules.proofs.Outcomes.{refusalOf, refusal-back}
 use Rattle.lines.specs.declared.frame.FrameRead.{FrameRead}
 use Rattle.lines.specs.declared.frame.FrameFound.{FrameFound}
 use Rattle.lines.specs.declared.frame.FrameFound.the-variants as frame
@@ -27,29 +24,6 @@ module _ {A B : Type 0} (said : A → B) (back : B → A) (undone : (a : A) → 
   same : {b : B} (a a′ : A) → said a ≡ b → said a′ ≡ b → a ≡ a′
   same a a′ h h′ = sym (undone a) ∙ ap back (h ∙ sym h′) ∙ undone a′
 
--- The refusal that has these numbers.
-abbrev refusalOf : Refused → Refusal
-refusalOf r =
-    cond (eqb (r .number) 1) Length
-    (cond (eqb (r .number) 2) (Row (firstOf (r .values)))
-    (cond (eqb (r .number) 3) (Limits (firstOf (r .values)))
-    (cond (eqb (r .number) 4) Store
-    (cond (eqb (r .number) 5) Earlier
-    (cond (eqb (r .number) 6) Late
-    (cond (eqb (r .number) 7) Record
-    (cond (eqb (r .number) 8) Line Sum)))))))
-
-refusal-undone : (r : Refusal) → refusalOf (refused r) ≡ r
-refusal-undone Length = refl
-refusal-undone (Row row) = refl
-refusal-undone (Limits row) = refl
-refusal-undone Store = refl
-refusal-undone Earlier = refl
-refusal-undone Late = refl
-refusal-undone Record = refl
-refusal-undone Line = refl
-refusal-undone Sum = refl
-
 abbrev frameOf : Said → FrameFound
 frameOf end = frame.End
 frameOf (numbers given) = frame.Frame (getD given 0 0) (getD given 1 0)
@@ -58,7 +32,7 @@ frameOf (refusal r) = frame.Refused (refusalOf r)
 frame-undone : (f : FrameFound) → frameOf (frameFound f) ≡ f
 frame-undone frame.End = refl
 frame-undone (frame.Frame counter mask) = refl
-frame-undone (frame.Refused r) = ap frame.Refused (refusal-undone r)
+frame-undone (frame.Refused r) = ap frame.Refused (refusal-back r)
 
 abbrev ruleOf : Said → RuleFound
 ruleOf end = rule.End
@@ -68,7 +42,7 @@ ruleOf (refusal r) = rule.Refused (refusalOf r)
 rule-undone : (f : RuleFound) → ruleOf (ruleFound f) ≡ f
 rule-undone rule.End = refl
 rule-undone (rule.Rule kind x y a b) = refl
-rule-undone (rule.Refused r) = ap rule.Refused (refusal-undone r)
+rule-undone (rule.Refused r) = ap rule.Refused (refusal-back r)
 
 -- `lines::frame::read_frame`, and `lines::reader::frame_at`, which promises the same.
 pub one-frame : (text : List ℕ) (place : ℕ) (r r′ : FrameRead) → frameSaid r ≡ readFrame text place → frameSaid r′ ≡ readFrame text place → r ≡ r′

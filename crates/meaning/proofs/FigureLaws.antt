@@ -67,12 +67,12 @@ unfoldable pub pulses : ℕ → ℕ → History
 pulses apart zero = record { time = 0; mask = 1 } ∷ []
 pulses apart (suc n) = record { time = pulseTime apart (suc n); mask = 1 } ∷ pulses apart n
 
-pulse-time : (apart n : ℕ) → pulseTime apart n ≡ n * apart
+pub pulse-time : (apart n : ℕ) → pulseTime apart n ≡ n * apart
 unfolding pulseTime
 pulse-time apart zero = omega arith
 pulse-time apart (suc n) = rw (suc-mul n apart, pulse-time apart n)
 
-pulses-last : (apart n : ℕ) → lastTime (pulses apart n) ≡ pulseTime apart n
+pub pulses-last : (apart n : ℕ) → lastTime (pulses apart n) ≡ pulseTime apart n
 unfolding pulses pulseTime
 pulses-last apart zero = refl
 pulses-last apart (suc n) = refl

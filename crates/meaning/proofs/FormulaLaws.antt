@@ -11,7 +11,7 @@ use Rattle.meaning.specs.Formula.{Formula, truth, bit, negation, both, e
 use Rattle.meaning.specs.Computed.{notPast?, within?, reached?, holds?}
 use Rattle.meaning.proofs.Tells.{Tells, tells-leb, tells-ltb, tells-eqb, tells-not, tells-and, tells-or, tells-same, tells-decided}
 
-tells-notPast : (n : ℕ) (end : End) → Tells (notPast? n end) (n ≤End end)
+pub tells-notPast : (n : ℕ) (end : End) → Tells (notPast? n end) (n ≤End end)
 tells-notPast n (upTo m) = tells-same (λ low. omega arith) (λ low. omega arith) (tells-leb n m)
 tells-notPast n noEnd = record { sound = λ _. tt; complete = λ _. tt }
 

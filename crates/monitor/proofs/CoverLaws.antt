@@ -5,23 +5,18 @@ use mathlib.Core.Path.{_≡_, refl}
 use Prim.Native.Nat.{ℕ, _+_, _*_, _-_, _≤_, _<_}
 use lib.Dec.{leb}
 use lib.ListN.{getD}
-use Rattle.meaning.specs.Interval.{End, upTo, noEnd, _≤End_}
-use Rattle.meaning.specs.Computed.{notPast?}
 use Rattle.meaning.specs.Spans.{Span, _to_, In}
 use Rattle.meaning.proofs.Tells.{Tells, tells-leb, tells-and, tells-or}
+use Rattle.meaning.proofs.FormulaLaws.{tells-notPast}
 use Rattle.monitor.specs.Layout.{mark, spansFrom}
 use Rattle.monitor.specs.Stretch.{covered}
 use Rattle.monitor.proofs.LayoutLaws.{notPast-word, spans-next, spans-none}
-
-end-told : (time : ℕ) (end : End) → Tells (notPast? time end) (time ≤End end)
-end-told time (upTo last) = tells-leb time last
-end-told time noEnd = record { sound = λ _. tt; complete = λ _. tt }
 
 pub covered-told : (time : ℕ) (S : List Span) → Tells (covered time S) (In time S)
 unfolding covered In
 covered-told time [] = record { sound = λ no. no; complete = λ no. no }
 covered-told time ((first to last) ∷ S) =
-    tells-or (tells-and (tells-leb first time) (end-told time last)) (covered-told time S)
+    tells-or (tells-and (tells-leb first time) (tells-notPast time last)) (covered-told time S)
 
 pub covered-next : (words : List ℕ) (place count time : ℕ) → place < count → time ≤ mark
     → covered time (spansFrom words place (count - place))

@@ -8,12 +8,12 @@ use Prim.Native.Nat.{ℕ, zero, suc, _≤_, _<_}
 use native.Mathlib.Nat.{eq-or-lt-of-le, le-of-suc-le-suc}
 use native.Mathlib.Omega.{arith}
 use lib.ListN.{length}
-use Rattle.meaning.specs.Interval.{End, upTo, noEnd, endOf, _≤End_}
+use Rattle.meaning.specs.Interval.{End, endOf}
 use Rattle.meaning.specs.History.{Event, History, lastTime}
 use Rattle.meaning.specs.Formula.{Formula, Holds}
-use Rattle.meaning.specs.Computed.{notPast?, within?}
-use Rattle.meaning.specs.Spans.{Span, _to_, In}
-use Rattle.meaning.proofs.Tells.{Tells, tells-leb, tells-eqb, tells-not, tells-and, tells-or, tells-same}
+use Rattle.meaning.specs.Computed.{within?}
+use Rattle.meaning.specs.Spans.{Span}
+use Rattle.meaning.proofs.Tells.{Tells, tells-eqb, tells-not, tells-and, tells-or, tells-same}
 use Rattle.meaning.proofs.FormulaLaws.{tells-within}
 use Rattle.meaning.proofs.HistoryLaws.{NoLater, no-later-on}
 use Rattle.meaning.proofs.RunsLaws.{runs-event, runs-tell}
@@ -25,7 +25,7 @@ use Rattle.rules.specs.declared.numbers.Numbers.{Numbers}
 use Rattle.rules.proofs.KindsLaws.{PlainNames, Names}
 use Rattle.rules.proofs.PassedLaws.{passed-formula}
 use Rattle.monitor.specs.Record.{timeLimit, truthAt}
-use Rattle.monitor.specs.Stretch.{covered}
+use Rattle.monitor.proofs.CoverLaws.{covered-told}
 use Rattle.monitor.specs.Event.{Moment, spansBy, spansAfter, truthBy, truthOf, truthsAfter, spansNow, storeAfter, recordAfter}
 use Rattle.promises.specs.Stream.{State}
 use Rattle.promises.specs.Spans.{NamedHolds}
@@ -35,16 +35,6 @@ use Rattle.promises.proofs.RangeLaws.{range-order}
 use Rattle.promises.proofs.SoundAfter.{room-after}
 use Rattle.promises.proofs.SoundIsKept.{sound-after, sized-after}
 use Rattle.promises.proofs.InvariantLaws.{passes, spans-found}
-
--- The test whether a time lies in a span tells so.
-not-past-told : (n : ℕ) (end : End) → Tells (notPast? n end) (n ≤End end)
-not-past-told n (upTo last) = tells-leb n last
-not-past-told n noEnd = record { sound = λ _. tt; complete = λ _. tt }
-
-covered-told : (now : ℕ) (S : List Span) → Tells (covered now S) (In now S)
-unfolding covered In
-covered-told now [] = record { sound = λ none. absurd none; complete = λ none. absurd none }
-covered-told now ((first to last) ∷ S) = tells-or (tells-and (tells-leb first now) (not-past-told now last)) (covered-told now S)
 
 -- Kind 5: the truth and the time found are those of the event before.
 previous-told : (φ : Formula) (a : ℕ) (b : End) (e : Event) (h : History) (seen was : Bool) (last : ℕ)

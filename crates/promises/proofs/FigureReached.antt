@@ -3,19 +3,19 @@
 use mathlib.Core.List.{List, [], _∷_, _++_}
 use mathlib.Core.Logic.{inl}
 use mathlib.Core.Path.{_≡_, refl, ap, _∙_}
-use Prim.Native.Nat.{ℕ, zero, suc, _+_, _*_, _-_, _/_, _≤_}
-use native.Mathlib.Nat.{suc-mul, div-mul-le-self}
+use Prim.Native.Nat.{ℕ, zero, suc, _+_, _-_, _/_, _≤_}
+use native.Mathlib.Nat.{div-mul-le-self}
 use native.Mathlib.Omega.{arith}
 use lib.ListN.{length, getD, replicate, length-append, length-replicate}
 use borrow.Author.Tests.{le-leb}
 use Rattle.meaning.specs.Interval.{End, upTo, noEnd, endOf}
-use Rattle.meaning.specs.History.{History, lastTime}
+use Rattle.meaning.specs.History.{History}
 use Rattle.meaning.specs.Formula.{truth, bit, Holds}
 use Rattle.meaning.specs.Spans.{Span}
 use Rattle.meaning.specs.Runs.{Runs}
 use Rattle.meaning.specs.Figure.{figure}
 use Rattle.meaning.proofs.RunsLaws.{runs-only}
-use Rattle.meaning.proofs.FigureLaws.{pulseTime, pulses, filling, figure-is-filled}
+use Rattle.meaning.proofs.FigureLaws.{pulseTime, pulses, pulse-time, pulses-last, filling, figure-is-filled}
 use Rattle.rules.specs.Kinds.{rowX, rowY, stretch, kindAt}
 use Rattle.rules.specs.Rows.{rowsOf, numbersAt, ruleOf}
 use Rattle.rules.specs.Stretches.{needOf}
@@ -77,16 +77,6 @@ kept-append : (h : History) (calls more : List Call) → kept h (calls ++ more) 
 unfolding kept
 kept-append h [] more = refl
 kept-append h (c ∷ calls) more = kept-append _ calls more
-
-pulses-last : (apart n : ℕ) → lastTime (pulses apart n) ≡ pulseTime apart n
-unfolding pulses pulseTime
-pulses-last apart zero = refl
-pulses-last apart (suc n) = refl
-
-pulse-time : (apart n : ℕ) → pulseTime apart n ≡ n * apart
-unfolding pulseTime
-pulse-time apart zero = omega arith
-pulse-time apart (suc n) = rw (suc-mul n apart, pulse-time apart n)
 
 pulses-kept : (apart n : ℕ) → pulseTime apart n ≤ timeLimit → history (pulseCalls apart n) ≡ pulses apart n
 unfolding pulseCalls pulses pulseTime kept
