@@ -12,3 +12,9 @@ pub mod SoundKept
 pub mod StretchKept
 pub mod SoundnessLaws
 pub mod ReachLaws
+pub mod RuleLaws
+pub mod RowLaws
+pub mod AcceptedLaws
+pub mod TurnLaws
+pub mod StepLaws
+pub mod FrameLaws

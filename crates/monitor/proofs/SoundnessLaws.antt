@@ -9,7 +9,7 @@ use native.Mathlib.Numerals.{add-one}
 use native.Mathlib.Omega.{arith}
 use lib.Dec.{leb, ltb, eqb}
 use lib.ListN.{getD, take, drop}
-use borrow.Author.Tests.{le-leb, eqb-true, eq-eqb, ne-eqb}
+use borrow.Author.Tests.{le-leb, leb-true, eqb-true, eq-eqb, ne-eqb}
 use Rattle.meaning.specs.Interval.{endOf, _+End_}
 use Rattle.meaning.specs.Sound.{lengthOf}
 use Rattle.rules.specs.Limits.{rowLimit}
@@ -123,6 +123,16 @@ stretch-fits table size rows row ready lower read place said =
     let counted : rows ≡ rowsOf table = ready .passes .counted in
     let inside : offset table row + width (numbersAt table row) ≤ offset table (rowsOf table) = stretch-before table row (rowsOf table) (omega arith) in
     rw (place, said, read) (omega (arith, ready .room))
+
+-- A sound record's time is within the limit, and every stretch is sound.
+pub sound-parts : (table store : List ℕ) (found : Record) → sound? table store found ≡ true
+    → (found .time ≤ timeLimit) × (every (rowsOf table) (soundRow? table store found) ≡ true)
+unfolding sound?
+sound-parts table store found h =
+    let first : Bool = eqb (found .rows) (rowsOf table) && every rowLimit (soundEntry? table found) && (found .seen || eqb (found .time) 0) in
+    let early : Bool = leb (found .time) timeLimit in
+    let last : Bool = every (rowsOf table) (soundRow? table store found) in
+    (leb-true _ _ (and-right first early (and-left (first && early) last h)), and-right (first && early) last h)
 
 -- Which test decides.
 module _ (table store : List ℕ) (found : Record) where

@@ -8,3 +8,4 @@ pub mod Ready
 pub mod Start
 pub mod Event
 pub mod Step
+pub mod Core

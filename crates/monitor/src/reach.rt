@@ -9,12 +9,12 @@ ghost use Rattle.meaning.specs.Interval.{endOf, _+End_};
 ghost use Rattle.meaning.specs.Computed.{within?, notPast?};
 ghost use Rattle.meaning.specs.Sound.{lengthOf};
 ghost use Rattle.monitor.specs.Record.{timeLimit};
-ghost use Rattle.monitor.specs.Layout.{wordOf};
+ghost use Rattle.monitor.specs.Layout.{wordOf, endAt};
 
 // The last number that an event at the time reaches, as a word: the mark where there is no end.
 pub(crate) fn last_reached(time: u64, b: u32) -> u64
     requires { ⌜ time ≤ timeLimit ⌝ }
-    ensures { λ r. ⌜ r ≡ wordOf (time +End endOf b) ⌝ }
+    ensures { λ r. ⌜ (r ≡ wordOf (time +End endOf b)) × (endAt r ≡ time +End endOf b) ⌝ }
 {
     if b == limits::NO_END {
         return NO_END;

@@ -2,7 +2,9 @@
 
 use rules::limits::ROW_LIMIT;
 ghost use mathlib.Core.Path.{_≡_};
-ghost use Rattle.monitor.specs.Record.{nothingSeen};
+ghost use Prim.Native.Nat.{_<_};
+ghost use Rattle.rules.specs.Limits.{rowLimit};
+ghost use Rattle.monitor.specs.Record.{truthAt, nothingSeen};
 
 pub struct Record {
     // Whether an event was seen, and its time.
@@ -26,4 +28,12 @@ pub(crate) fn nothing_seen(rows: u32) -> Record
         truths: [false; ROW_LIMIT],
         counts: [0; ROW_LIMIT],
     }
+}
+
+// A row's truth.
+pub(crate) fn truth_at(truths: &[bool; ROW_LIMIT], row: u32) -> bool
+    requires { ⌜ row < rowLimit ⌝ }
+    ensures { λ r. ⌜ r ≡ truthAt (now (truths .entry)) row ⌝ }
+{
+    truths[row as usize]
 }

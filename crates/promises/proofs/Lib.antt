@@ -8,6 +8,9 @@ pub mod StretchTold
 pub mod RecordTold
 pub mod Refusing
 pub mod AsIfNotMade
+pub mod Reading
+pub mod TextRead
+pub mod TextAsIfNotMade
 pub mod SoundAfter
 pub mod SoundIsKept
 pub mod SpareWords
@@ -19,6 +22,7 @@ pub mod EventKept
 pub mod CallKept
 pub mod StreamKept
 pub mod Verdicts
+pub mod LineTimes
 pub mod Spans
 pub mod Room
 pub mod FigureReached

@@ -3,8 +3,12 @@ pub mod Stream
 pub mod Conditions
 pub mod Refusing
 pub mod AsIfNotMade
+pub mod Reading
+pub mod TextRead
+pub mod TextAsIfNotMade
 pub mod Words
 pub mod Verdicts
+pub mod LineTimes
 pub mod Spans
 pub mod Room
 pub mod Invariant

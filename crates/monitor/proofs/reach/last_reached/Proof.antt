@@ -1,13 +1,13 @@
 -- `monitor::reach::last_reached` meets its contract, by the test for no end. Assumes nothing.
 use borrow.Author.Needs.{needs}
-use borrow.Author.Tests.{eq-eqb, ne-eqb}
-use Rattle.meaning.specs.Interval.{endOf}
+use Rattle.monitor.proofs.ReachLaws.{last-read, marked, summed}
 use Rattle.monitor.proofs.reach.last_reached.Statement.{statement}
 use Rattle.monitor.proofs.reach.last_reached.Tie as tie
 
 returns : tie.Need-returns
-unfolding endOf
-returns c = rw (eq-eqb _ _ (c .if1 .taken))
+returns c =
+    let word = marked (c .before .args .time) (c .if1 .taken) in
+    (word, last-read _ _ (c .before .pre) (c .before .fits .b .fits) word)
 
 wide-requires : tie.Need-wide-requires
 wide-requires c κs = search needs
@@ -16,8 +16,9 @@ add-result : tie.Need-add-result
 add-result c = search needs
 
 returns-2 : tie.Need-returns-2
-unfolding endOf
-returns-2 c = rw (ne-eqb _ _ (c .before .if1 .left), c .wide .ensures)
+returns-2 c =
+    let word = summed (c .before .before .args .time) (c .before .if1 .left) (c .wide .ensures) in
+    (word, last-read _ _ (c .before .before .pre) (c .before .before .fits .b .fits) word)
 
 pub last-reached-spec : {M : Type 1} → statement M
 last-reached-spec = tie.close (tie.spec returns wide-requires add-result returns-2)

@@ -1,5 +1,4 @@
 -- `monitor::reach::within` meets its contract: its two tests, one after the other. Assumes nothing.
-use mathlib.Core.Path.{sym, _∙_}
 use borrow.Author.Needs.{needs}
 use Rattle.monitor.proofs.reach.within.Statement.{statement}
 use Rattle.monitor.proofs.reach.within.Tie as tie

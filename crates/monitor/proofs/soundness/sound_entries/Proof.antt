@@ -1,6 +1,6 @@
 -- `monitor::soundness::sound_entries` meets its contract. The loop's invariant: every row passed is sound. The measure is what is left of
 -- the rows. Assumes nothing.
-use mathlib.Core.Bool.{true, false}
+use mathlib.Core.Bool.{true}
 use mathlib.Core.Path.{_≡_, sym, _∙_, refl}
 use Prim.Native.Nat.{_-_, _≤_}
 use denote.Ref.{now}

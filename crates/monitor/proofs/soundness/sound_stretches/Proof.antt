@@ -1,6 +1,6 @@
 -- `monitor::soundness::sound_stretches` meets its contract. The loop's invariant: every stretch passed is sound, and the next one begins where
 -- they end. The measure is what is left of the rows. Assumes nothing.
-use mathlib.Core.Bool.{true, false}
+use mathlib.Core.Bool.{true}
 use mathlib.Core.Path.{_≡_, sym, _∙_, refl}
 use Prim.Native.Nat.{_+_, _-_, _≤_, _<_}
 use native.Mathlib.Omega.{arith}

@@ -1,0 +1,146 @@
+-- What is known where a call is not refused: the table passes, the store has room, the record is sound and the time is in order; and so each
+-- row's spans are laid out in its stretch, and those after the event have room there, whatever the truths of the lower rows.
+use mathlib.Core.Bool.{Bool, true, false, cond}
+use mathlib.Core.List.{List}
+use mathlib.Core.Logic.{_⊎_, ⊎-elim}
+use mathlib.Core.Option.{Option, none, some}
+use mathlib.Core.Path.{_≡_, refl, sym, subst}
+use Prim.Native.Nat.{ℕ, _+_, _*_, _-_, _^_, _≤_, _<_}
+use native.Mathlib.Omega.{arith}
+use lib.Dec.{T, leb, eqb}
+use lib.ListN.{length, length-take, length-drop}
+use borrow.Author.Tests.{leb-true}
+use Rattle.meaning.specs.Interval.{upTo, noEnd, noEndNumber, endOf, _≤End_, _+End_}
+use Rattle.meaning.specs.Spans.{reach, update}
+use Rattle.meaning.specs.Sound.{lengthOf}
+use Rattle.meaning.specs.Figure.{figure}
+use Rattle.rules.specs.Limits.{spanWords}
+use Rattle.rules.specs.Kinds.{Rule, plain, stretch}
+use Rattle.rules.specs.Rows.{rowsOf, numbersAt, ruleOf, named}
+use Rattle.rules.specs.Stretches.{spansSaid, width, offset}
+use Rattle.rules.specs.Refusals.{Refused}
+use Rattle.rules.specs.declared.numbers.Numbers.{Numbers}
+use Rattle.rules.specs.declared.refusal.Refusal.{Refusal}
+use Rattle.rules.specs.declared.refusal.Refusal.the-variants.{Earlier, Late, Record}
+use Rattle.rules.proofs.PassedLaws.{InRange}
+use Rattle.rules.proofs.StretchesLaws.{stretch-before}
+use Rattle.monitor.specs.declared.record.Record as Kept
+use Rattle.monitor.specs.Layout.{wordOf, Packed}
+use Rattle.monitor.specs.StretchSound.{SoundStretch}
+use Rattle.monitor.specs.Record.{timeLimit, truthAt, heldAt, stretchAt, spansFound}
+use Rattle.monitor.specs.Soundness.{soundRow?, sound?}
+use Rattle.monitor.specs.Ready.{readyOf, refusalIn}
+use Rattle.monitor.specs.Event.{Moment, spansBy, spansAfter}
+use Rattle.monitor.specs.Step.{Setup, Call, timeOf, _orElse_, unless, refusalOf}
+use Rattle.monitor.proofs.LayoutLaws.{Storable, end-back}
+use Rattle.monitor.proofs.SoundTold.{stretch-told}
+use Rattle.monitor.proofs.StretchKept.{sound-packed, sound-ready}
+use Rattle.monitor.proofs.ReadyLaws.{Ready, ready-none}
+use Rattle.monitor.proofs.ReachLaws.{reach-storable, reach-word}
+use Rattle.monitor.proofs.SoundnessLaws.{every-at, sound-parts}
+
+-- The conditions of a call, each met.
+pub record Accepted (table store : List ℕ) (found : Kept.Record) (time : ℕ) : Type 0 where
+  pub ready : Ready table (length store) (rowsOf table)
+  pub sound : sound? table store found ≡ true
+  pub early : time ≤ timeLimit
+  pub risen : found .time ≤ time
+
+or-none : (p q : Option Refused) → (p orElse q) ≡ none → (p ≡ none) × (q ≡ none)
+or-none none q h = (refl, h)
+or-none (some fault) q h = let z : _≡_ {A = ℕ} 0 1 = cc in absurd (omega arith)
+
+unless-none : (test : Bool) (refusal : Refusal) → unless test refusal ≡ none → test ≡ true
+unless-none true refusal h = refl
+unless-none false refusal h = let z : _≡_ {A = ℕ} 0 1 = cc in absurd (omega arith)
+
+pub accepted : (setup : Setup) (store : List ℕ) (found : Kept.Record) (call : Call) → refusalOf setup store found call ≡ none
+    → Accepted (setup .table) store found (timeOf found call)
+unfolding refusalOf
+accepted setup store found call h =
+    let sound : Option Refused = unless (sound? (setup .table) store found) Record in
+    let early : Option Refused = unless (leb (timeOf found call) timeLimit) Late in
+    let risen : Option Refused = unless (leb (found .time) (timeOf found call)) Earlier in
+    let first = or-none (refusalIn (readyOf (setup .table) (length store))) (sound orElse early orElse risen) h in
+    let second = or-none sound (early orElse risen) (first .1) in
+    let third = or-none early risen (second .1) in
+    record {
+      ready = ready-none (setup .table) (length store) (first .0);
+      sound = unless-none (sound? (setup .table) store found) Record (second .0);
+      early = leb-true _ _ (unless-none (leb (timeOf found call) timeLimit) Late (third .0));
+      risen = leb-true _ _ (unless-none (leb (found .time) (timeOf found call)) Earlier (third .1));
+    }
+
+-- Limits in range: b fits a number of the table, and a is not past b.
+limit-fits : (a b : ℕ) → InRange a b → b < 2 ^ 32
+limit-fits a b range = ⊎-elim (λ e. omega arith) (λ both. omega arith) (range .most)
+
+order : (a b : ℕ) → InRange a b → a ≤End endOf b
+unfolding endOf
+order a b range = go (eqb b noEndNumber) refl
+  where
+    go : (endless : Bool) → eqb b noEndNumber ≡ endless → a ≤End cond endless noEnd (upTo b)
+    go true h = tt
+    go false h = ⊎-elim (λ e. omega (arith, range .least)) (λ both. both .0) (range .most)
+
+module _ (table store : List ℕ) (found : Kept.Record) (time : ℕ) (met : Accepted table store found time) where
+  module _ (row : ℕ) (lower : row < rowsOf table) where
+    abbrev numbers : Numbers
+    numbers = numbersAt table row
+
+    range : InRange (numbers .a) (numbers .b)
+    range = met .ready .passes .good row lower .limits
+
+    pub row-inside : offset table row + width numbers ≤ length store
+    row-inside = omega (arith, stretch-before table row (rowsOf table) lower, met .ready .room)
+
+    pub length-stretch : length (stretchAt table store row) ≡ width numbers
+    unfolding stretchAt
+    length-stretch =
+        let inside = row-inside in
+        simp (length-take, length-drop) (omega arith)
+
+    stretch-sound :
+        SoundStretch (stretchAt table store row) (heldAt found row) (found .time) (found .time + numbers .a)
+        (wordOf (found .time +End endOf (numbers .b))) (lengthOf (numbers .a) (endOf (numbers .b)))
+    unfolding soundRow?
+    stretch-sound =
+        stretch-told (stretchAt table store row) (heldAt found row) (found .time) (found .time + numbers .a) (wordOf (found .time +End endOf (numbers .b)))
+        (lengthOf (numbers .a) (endOf (numbers .b)))
+        (reach-word (found .time) (numbers .b) (omega (arith, met .early, met .risen)) (limit-fits (numbers .a) (numbers .b) range))
+        .sound
+        (subst T (sym (every-at (rowsOf table) row (soundRow? table store found) lower (sound-parts table store found (met .sound) .1))) tt)
+
+    room : Storable (time +End endOf (numbers .b))
+    room = reach-storable time (numbers .b) (met .early) (limit-fits (numbers .a) (numbers .b) range)
+
+    pub row-laid : Packed (stretchAt table store row) (heldAt found row)
+    row-laid =
+        sound-packed (found .time) time (found .time) (numbers .a) (found .time + numbers .a) (endOf (numbers .b)) (stretchAt table store row)
+        (heldAt found row) (order (numbers .a) (numbers .b) range) (met .risen) (met .risen) room stretch-sound
+
+    room-for : (keep feed : Bool) → 2 * figure (numbers .a) (endOf (numbers .b)) ≤ length (stretchAt table store row)
+        → 2 * length (update keep feed time (reach time (numbers .a) (endOf (numbers .b))) (spansFound table store found row))
+        ≤ length (stretchAt table store row)
+    room-for keep feed size =
+        rw (end-back (time +End endOf (numbers .b)) room)
+        at (
+        sound-ready (found .time) time (found .time) (numbers .a) (found .time + numbers .a) (endOf (numbers .b)) (stretchAt table store row)
+        (heldAt found row) (order (numbers .a) (numbers .b) range) (met .risen) (met .risen) room stretch-sound keep feed size
+        )
+
+-- The spans of a row after the event have room, whatever the truths of the lower rows.
+module _ (m : Moment) (met : Accepted (m .table) (m .store) (m .found) (m .time)) (row : ℕ) (lower : row < rowsOf (m .table)) (truths : List Bool) where
+  abbrev N : Numbers
+  N = numbersAt (m .table) row
+
+  enough-by : (rule : Rule) → length (stretchAt (m .table) (m .store) row) ≡ spanWords * spansSaid rule N
+      → 2 * length (spansBy m truths (spansFound (m .table) (m .store) (m .found) row) N rule) ≤ spanWords * spansSaid rule N
+  enough-by (plain says) size = omega arith
+  enough-by (stretch keep feed) size =
+      rw (← size)
+      (room-for (m .table) (m .store) (m .found) (m .time) met row lower (truthAt truths (named keep N)) (truthAt truths (named feed N)) (omega arith))
+
+  pub row-enough : 2 * length (spansAfter m row truths) ≤ width N
+  unfolding spansAfter
+  row-enough = enough-by (ruleOf N) (length-stretch (m .table) (m .store) (m .found) (m .time) met row lower)

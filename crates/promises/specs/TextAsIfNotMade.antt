@@ -1,0 +1,87 @@
+-- Demand 1 for text: "a refused call changes nothing ..: the stream goes on as if it hadn't been made." A refused line (8, 9), and a line whose frame is
+-- refused, change nothing but the place. For every list of readings, each of any text at any place, its frame judged with any table and any length of the
+-- store, from any record and any words.
+use mathlib.Core.Bool.{Bool, true, cond}
+use mathlib.Core.List.{List, [], _∷_}
+use mathlib.Core.Path.{_≡_}
+use Prim.Native.Nat.{ℕ}
+use Rattle.rules.specs.Refusals.{Refused}
+use Rattle.monitor.specs.Step.{Setup, Reply, refusal}
+use Rattle.lines.specs.Read as line
+use Rattle.lines.specs.Read.{Said, Read}
+use Rattle.lines.specs.Frame.{readFrame}
+use Rattle.promises.specs.Stream.{State}
+use Rattle.promises.specs.AsIfNotMade.{Attempt, attempt, leaves, judged}
+use Rattle.promises.specs.Reading.{Past}
+use Rattle.promises.specs.TextRead.{frameIn}
+
+-- Where a line is read, and what its frame is attempted with.
+pub record Reading : Type 0 where
+  pub text : List ℕ
+  pub place : ℕ
+  pub setup : Setup
+  pub size : ℕ
+
+abbrev pub read : Reading → Read
+read r = readFrame (r .text) (r .place)
+
+abbrev pub framed : Reading → List ℕ → Attempt
+framed r given = record { setup = r .setup; size = r .size; made = frameIn given }
+
+-- "end", or a verdict or a refusal: of the line, or else of its frame.
+pub data Answer : Type 0 where
+  ended : Answer
+  replied : Reply → Answer
+
+abbrev pub answerTo : State → Reading → Said → Answer
+answerTo s r line.end = ended
+answerTo s r (line.numbers given) = replied (attempt s (framed r given) .reply)
+answerTo s r (line.refusal fault) = replied (refusal fault)
+
+-- Only a good line makes a call.
+abbrev pub leftBy : State → Reading → Said → State
+leftBy s r line.end = s
+leftBy s r (line.numbers given) = leaves s (framed r given)
+leftBy s r (line.refusal fault) = s
+
+abbrev pub answer : State → Reading → Answer
+answer s r = answerTo s r (read r .said)
+
+abbrev pub left : State → Reading → State
+left s r = leftBy s r (read r .said)
+
+abbrev pub unrefused : Answer → Bool
+unrefused ended = true
+unrefused (replied reply) = judged reply
+
+-- The answers to the readings in turn, the state after them, and those of them that were not refused, with their answers.
+unfoldable pub answers : State → List Reading → List Answer
+answers s [] = []
+answers s (r ∷ more) = answer s r ∷ answers (left s r) more
+
+unfoldable pub endState : State → List Reading → State
+endState s [] = s
+endState s (r ∷ more) = endState (left s r) more
+
+unfoldable pub others : State → List Reading → List Reading
+others s [] = []
+others s (r ∷ more) = cond (unrefused (answer s r)) (r ∷ others (left s r) more) (others (left s r) more)
+
+unfoldable pub otherAnswers : List Answer → List Answer
+otherAnswers [] = []
+otherAnswers (given ∷ more) = cond (unrefused given) (given ∷ otherAnswers more) (otherAnswers more)
+
+-- Leaving out those that are refused, the others at their places, leaves every other answer, the record and every word the same.
+pub record Unchanged (s : State) (readings : List Reading) : Type 0 where
+  pub same-answers : answers s (others s readings) ≡ otherAnswers (answers s readings)
+  pub same-state : endState s (others s readings) ≡ endState s readings
+
+-- A refused line is answered with its number, moves the place past its first line feed or to the end, and does nothing else.
+pub record OnlyThePlace (s : State) (r : Reading) (fault : Refused) : Type 0 where
+  pub number : answer s r ≡ replied (refusal fault)
+  pub place : Past (r .text) (r .place) (read r .next)
+  pub state : left s r ≡ s
+
+pub record TextAsIfNotMade : Type 0 where
+  pub line : (s : State) (r : Reading) (fault : Refused) → read r .said ≡ line.refusal fault → OnlyThePlace s r fault
+  pub stream : (s : State) (readings : List Reading) → Unchanged s readings

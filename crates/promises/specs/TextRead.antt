@@ -1,0 +1,51 @@
+-- A text read line after line from its first byte, each reading at the place that the reading before gave, until "end" is answered.
+use mathlib.Core.List.{List, [], _∷_, map}
+use mathlib.Core.Path.{_≡_}
+use Prim.Native.Nat.{ℕ, zero, suc, _+_, _≤_}
+use lib.ListN.{length, getD}
+use Rattle.lines.specs.Read.{Said, end, numbers, refusal}
+use Rattle.lines.specs.Frame.{readFrame}
+use Rattle.monitor.specs.Step.{Call, frame}
+
+-- The place after so many readings. At the end it stays.
+unfoldable pub placeAfter : List ℕ → ℕ → ℕ → ℕ
+placeAfter text place zero = place
+placeAfter text place (suc readings) = placeAfter text (readFrame text place .next) readings
+
+-- What so many readings say, those before "end".
+abbrev pub untilEnd : Said → List Said → List Said
+untilEnd end more = []
+untilEnd (numbers given) more = numbers given ∷ more
+untilEnd (refusal fault) more = refusal fault ∷ more
+
+unfoldable pub linesFrom : List ℕ → ℕ → ℕ → List Said
+linesFrom text place zero = []
+linesFrom text place (suc readings) = untilEnd (readFrame text place .said) (linesFrom text (readFrame text place .next) readings)
+
+-- As many readings as the text has bytes are never too few: the place is then at or past the end, and more readings say nothing more.
+abbrev pub linesRead : List ℕ → List Said
+linesRead text = linesFrom text 0 (length text)
+
+pub record ReadWhole (text : List ℕ) : Type 0 where
+  pub at-end : length text ≤ placeAfter text 0 (length text)
+  pub no-more : (more : ℕ) → linesFrom text 0 (length text + more) ≡ linesRead text
+
+-- The numbers of the good lines.
+unfoldable pub goodLines : List Said → List (List ℕ)
+goodLines [] = []
+goodLines (end ∷ lines) = goodLines lines
+goodLines (numbers given ∷ lines) = given ∷ goodLines lines
+goodLines (refusal fault ∷ lines) = goodLines lines
+
+abbrev pub counterIn : List ℕ → ℕ
+counterIn given = getD given 0 0
+
+abbrev pub frameIn : List ℕ → Call
+frameIn given = frame (counterIn given) (getD given 1 0)
+
+-- The calls that a text makes: a frame for each good line. A refused line makes none.
+abbrev pub framesOf : List ℕ → List Call
+framesOf text = map frameIn (goodLines (linesRead text))
+
+abbrev pub countersOf : List ℕ → List ℕ
+countersOf text = map counterIn (goodLines (linesRead text))
