@@ -20,7 +20,7 @@ use Rattle.lines.specs.Read.{Said, end, numbers, refusal, Read}
 use Rattle.lines.specs.Frame.{readFrame}
 use Rattle.lines.proofs.DigitLaws.{digitsAt-most}
 use Rattle.lines.proofs.LineLaws.{next-past}
-use Rattle.promises.specs.Reading.{Digit, number, letter, dataBytes, byteValues, frameDigits, frameBytes, WellFormed, byteOf, SumRight, LineRefused, eight, nine, LineGood, ReadRefusedExactly, NoLineFeed, Past, first, none, PlaceMoves}
+use Rattle.promises.specs.Reading.{Digit, number, letter, dataBytes, byteValues, frameDigits, frameBytes, WellFormed, byteOf, sumOf, SumRight, LineRefused, eight, nine, LineGood, ReadRefusedExactly, NoLineFeed, Past, first, none, PlaceMoves}
 use Rattle.promises.proofs.Deciding.{told-true, told-false}
 
 digit-told : (byte : ℕ) → Tells (isDigit byte) (Digit byte)
@@ -79,7 +79,7 @@ module _ (text : List ℕ) (place : ℕ) where
   sum-told : Tells (eqb (sumAt text place dataBytes % byteValues) (byteOf text place dataBytes)) (SumRight text place)
   unfolding sumAt
   sum-told =
-      let same : sumAt text place dataBytes ≡ byteOf text place 0 + byteOf text place 1 + byteOf text place 2 + byteOf text place 3 + byteOf text place 4 + byteOf text place 5 = omega arith in
+      let same : sumAt text place dataBytes ≡ sumOf text place = omega arith in
       rw same (tells-eqb _ (byteOf text place dataBytes))
 
   -- A digit is not missing, so a well formed line is before the end.

@@ -42,11 +42,13 @@ unchanged s (r ∷ more) = go (unrefused (answer s r)) refl (unchanged (left s r
 pub text-as-if-not-made : TextAsIfNotMade
 text-as-if-not-made =
     record {
-      line = λ s r fault e.
+      refused-line = λ s r fault e.
           record {
             number = ap (answerTo s r) e;
             place = place-moves (r .text) (r .place) .refused fault e;
             state = ap (leftBy s r) e;
           };
+      refused-frame = λ s r given e refused.
+          record { place = place-moves (r .text) (r .place) .good given e; state = refused-left s r (read r .said) refused };
       stream = unchanged;
     }

@@ -45,10 +45,12 @@ pub record WellFormed (text : List ℕ) (place : ℕ) : Type 0 where
 abbrev pub byteOf : List ℕ → ℕ → ℕ → ℕ
 byteOf text place i = hexAt text (place + 2 * i) 2
 
+abbrev pub sumOf : List ℕ → ℕ → ℕ
+sumOf text place =
+    byteOf text place 0 + byteOf text place 1 + byteOf text place 2 + byteOf text place 3 + byteOf text place 4 + byteOf text place 5
+
 abbrev pub SumRight : List ℕ → ℕ → Type 0
-SumRight text place =
-    (byteOf text place 0 + byteOf text place 1 + byteOf text place 2 + byteOf text place 3 + byteOf text place 4 + byteOf text place 5) % byteValues
-    ≡ byteOf text place dataBytes
+SumRight text place = sumOf text place % byteValues ≡ byteOf text place dataBytes
 
 -- 8: "place before the end, but no 14 digits 0-9 A-F and line feed there"; 9: "line well formed, its sum wrong".
 pub data LineRefused (text : List ℕ) (place : ℕ) : Refused → Type 0 where

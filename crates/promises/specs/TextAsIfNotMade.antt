@@ -1,10 +1,10 @@
 -- Demand 1 for text: "a refused call changes nothing ..: the stream goes on as if it hadn't been made." A refused line (8, 9), and a line whose frame is
 -- refused, change nothing but the place. For every list of readings, each of any text at any place, its frame judged with any table and any length of the
 -- store, from any record and any words.
-use mathlib.Core.Bool.{Bool, true, cond}
+use mathlib.Core.Bool.{Bool, true, false, cond}
 use mathlib.Core.List.{List, [], _∷_}
 use mathlib.Core.Path.{_≡_}
-use Prim.Native.Nat.{ℕ}
+use Prim.Native.Nat.{ℕ, _+_}
 use Rattle.rules.specs.Refusals.{Refused}
 use Rattle.monitor.specs.Step.{Setup, Reply, refusal}
 use Rattle.lines.specs.Read as line
@@ -12,7 +12,7 @@ use Rattle.lines.specs.Read.{Said, Read}
 use Rattle.lines.specs.Frame.{readFrame}
 use Rattle.promises.specs.Stream.{State}
 use Rattle.promises.specs.AsIfNotMade.{Attempt, attempt, leaves, judged}
-use Rattle.promises.specs.Reading.{Past}
+use Rattle.promises.specs.Reading.{Past, frameBytes}
 use Rattle.promises.specs.TextRead.{frameIn}
 
 -- Where a line is read, and what its frame is attempted with.
@@ -77,11 +77,20 @@ pub record Unchanged (s : State) (readings : List Reading) : Type 0 where
   pub same-state : endState s (others s readings) ≡ endState s readings
 
 -- A refused line is answered with its number, moves the place past its first line feed or to the end, and does nothing else.
-pub record OnlyThePlace (s : State) (r : Reading) (fault : Refused) : Type 0 where
+pub record LineNotMade (s : State) (r : Reading) (fault : Refused) : Type 0 where
   pub number : answer s r ≡ replied (refusal fault)
   pub place : Past (r .text) (r .place) (read r .next)
   pub state : left s r ≡ s
 
+-- A refused frame moves the place past its line, and does nothing else.
+pub record FrameNotMade (s : State) (r : Reading) : Type 0 where
+  pub place : read r .next ≡ r .place + frameBytes
+  pub state : left s r ≡ s
+
 pub record TextAsIfNotMade : Type 0 where
-  pub line : (s : State) (r : Reading) (fault : Refused) → read r .said ≡ line.refusal fault → OnlyThePlace s r fault
+  pub refused-line : (s : State) (r : Reading) (fault : Refused) → read r .said ≡ line.refusal fault → LineNotMade s r fault
+  pub refused-frame : (s : State) (r : Reading) (given : List ℕ)
+      → read r .said ≡ line.numbers given
+      → unrefused (answer s r) ≡ false
+      → FrameNotMade s r
   pub stream : (s : State) (readings : List Reading) → Unchanged s readings
