@@ -1,0 +1,57 @@
+// The text program: standard input to standard output, nothing else (document 01, "The program's text"). It reads what is there, judges every
+// whole line, writes, and only then waits again. Its memory is fixed.
+
+use libc::STDIN_FILENO;
+use libc::STDOUT_FILENO;
+use rules::limits::ROW_LIMIT;
+use rules::limits::ROW_NUMBERS;
+use text::feed::finish;
+use text::feed::step;
+use text::replies::LONGEST_REPLY;
+use text::state::State;
+use text::state::fresh;
+
+// "The program's store is 8,192 words."
+const STORE_WORDS: usize = 8192;
+
+const PIECE_BYTES: usize = 4096;
+
+// Room for a line a byte: every byte of a piece is taken (`every-byte-taken` of the crate text).
+const OUTPUT_BYTES: usize = PIECE_BYTES * LONGEST_REPLY;
+
+fn main() {
+    let mut table = [0u32; ROW_LIMIT * ROW_NUMBERS];
+    let mut store = [0u64; STORE_WORDS];
+    let mut piece = [0u8; PIECE_BYTES];
+    let mut out = [0u8; OUTPUT_BYTES];
+    run(&mut table, &mut store, &mut piece, &mut out);
+}
+
+// A proved loop has to end, and nothing says that a text does: it counts its turns down, from a number that no run uses up.
+fn run(table: &mut [u32], store: &mut [u64], piece: &mut [u8], out: &mut [u8]) {
+    let mut state = fresh();
+    let mut turns = u64::MAX;
+    while turns > 0 {
+        turns -= 1;
+        let got = libc::read(STDIN_FILENO, piece);
+        let n = io::count(got, piece);
+        if n == 0 {
+            end(state, out);
+            return;
+        }
+        let fed = step(state, table, store, &piece[..n], out);
+        let wrote = fed.wrote;
+        if !io::write_all(STDOUT_FILENO, &out[..wrote]) {
+            return;
+        }
+        let left = fed.state;
+        state = left;
+    }
+}
+
+// A read that ends, or fails, is the text's end.
+fn end(state: State, out: &mut [u8]) {
+    let finished = finish(state, out);
+    let wrote = finished.wrote;
+    io::write_all(STDOUT_FILENO, &out[..wrote]);
+}

@@ -1,0 +1,266 @@
+-- Every cutting of a text is the text: what the bytes taken so far write, and what is still owed for those to come, is the transcript.
+use mathlib.Core.Bool.{true, false, cond}
+use mathlib.Core.List.{List, [], _∷_, _++_, append-assoc, append-nil}
+use mathlib.Core.Option.{Option, none, some}
+use mathlib.Core.Path.{_≡_, refl, sym, ap, _∙_}
+use Prim.Native.Nat.{ℕ, zero, suc, _+_, _-_, _*_, _≤_, _<_, min}
+use native.Mathlib.Omega.{arith}
+use borrow.Author.Tests.{leb-true, leb-false, le-leb, lt-leb, eqb-true, eqb-false, eq-eqb, ne-eqb, ltb-true, ltb-false, le-ltb}
+use lib.Dec.{leb, ltb, eqb, lit<}
+use lib.ListN.{length, take, drop, length-append}
+use lib.Seq.{getD-take, take-length}
+use native.Mathlib.Numerals.{one-add}
+use Rattle.rules.specs.Limits.{rowLimit, rowNumbers}
+use Rattle.rules.specs.Refusals.{Refused, numberOf, firstOf}
+use Rattle.rules.specs.Stretches.{needOf}
+use Rattle.rules.specs.declared.refusal.Refusal.the-variants.{Length}
+use Rattle.lines.specs.Digits.{byteAt}
+use Rattle.lines.specs.Line.{lineFeed, digitsOf}
+use Rattle.lines.specs.Read.{Said, end, numbers, refusal}
+use Rattle.lines.specs.Frame.{frameWidths, readFrame}
+use Rattle.lines.specs.Rule.{ruleWidths, readRule}
+use Rattle.lines.proofs.Tests.{by-test}
+use Rattle.lines.proofs.WriteLaws.{length-digits}
+use Rattle.monitor.specs.Start.{startOf}
+use Rattle.monitor.specs.Step.{Reply}
+use Rattle.monitor.specs.Step as step
+use Rattle.text.specs.declared.state.Part.{Part}
+use Rattle.text.specs.declared.state.Part.the-variants.{Rules, Frames, Over}
+use Rattle.text.specs.Lines.{linesFrom, cutOff}
+use Rattle.text.specs.Replies.{longestReply, replyLine, verdictNumber, refusalLine}
+use Rattle.text.specs.Transcript.{emptyStore, Running, judged, frameOf, replyOf, frameReply, framesFrom, rulesFrom, transcript}
+use Rattle.text.specs.Held.{lineLimit, heldLine, holding}
+use Rattle.text.specs.Turn.{Desk, rowsRead, runningAt, startText, ruleTurn, beforeFrames, turnIn, turnOf}
+use Rattle.text.specs.Feed.{Memory, byteLeaves, byteText, feed, stepOf, memoryOf, fresh, endText, endOf}
+use Rattle.text.specs.Cutting.{Lent, Course, course, stateIn, EveryCutting, joined, Roomy, EveryByteTaken, SomeByteTaken}
+use Rattle.text.proofs.WroteLaws.{length-reply}
+use Rattle.text.proofs.AgreeLaws.{said-held, said-cut}
+use Rattle.text.proofs.HeldLaws.{Holds, holds-line, holds-none, holds-more}
+use Rattle.text.proofs.OwedLaws.{owedIn, owed, Right, rows-read, turn-owed, turn-right}
+
+-- The unfinished line after a text that goes on from one.
+unfoldable pub unfinished : List ℕ → List ℕ → List ℕ
+unfinished line [] = line
+unfinished line (byte ∷ text) = cond (eqb byte lineFeed) (unfinished [] text) (unfinished (line ++ (byte ∷ [])) text)
+
+-- What there is between two bytes is right for an unfinished line.
+pub record Stands (m : Memory) (line : List ℕ) : Type 0 where
+  pub held : Holds (m .held) line
+  pub free : (i : ℕ) → byteAt line i ≡ lineFeed → ⊥
+  pub desk : Right (m .desk)
+
+-- A line as far as it is held brings what the line brings.
+turn-held-in : (part : Part) (d : Desk) (line : List ℕ) → turnIn part d (take lineLimit line) ≡ turnIn part d line
+unfolding beforeFrames
+turn-held-in Rules d line = rw (getD-take lineLimit line 0 0 (lit< tt), said-held ruleWidths lineLimit line (omega arith))
+turn-held-in Frames d line = rw (said-held frameWidths lineLimit line (omega arith))
+turn-held-in Over d line = refl
+
+turn-held : (m : Memory) (line : List ℕ) (byte : ℕ) → Stands m line → turnOf (m .desk) (heldLine (holding (m .held) byte)) ≡ turnOf (m .desk) (line ++ (byte ∷ []))
+turn-held m line byte stands =
+    ap (turnOf (m .desk)) (holds-line (holding (m .held) byte) (line ++ (byte ∷ [])) (holds-more (m .held) line byte (stands .held)))
+    ∙ turn-held-in (m .desk .stage .part) (m .desk) (line ++ (byte ∷ []))
+
+-- A line stays without a line feed by every other byte.
+free-more : (line : List ℕ) (byte : ℕ) → ((i : ℕ) → byteAt line i ≡ lineFeed → ⊥) → (byte ≡ lineFeed → ⊥)
+    → (i : ℕ) → byteAt (line ++ (byte ∷ [])) i ≡ lineFeed → ⊥
+free-more [] byte free other zero is = other is
+free-more [] byte free other (suc i) is = let z : _≡_ {A = ℕ} 0 lineFeed = is in omega arith
+free-more (first ∷ line) byte free other zero is = free zero is
+free-more (first ∷ line) byte free other (suc i) is = free-more line byte (λ j. free (suc j)) other i is
+
+-- What is still to be written for the rest of a text.
+abbrev toCome : Memory → List ℕ → List ℕ → List ℕ
+toCome m line rest = owed (m .desk) (linesFrom line rest)
+
+-- One byte writes its share.
+module _ (m : Memory) (line : List ℕ) (byte : ℕ) (stands : Stands m line) where
+  byte-owed : (rest : List ℕ) → toCome m line (byte ∷ rest) ≡ byteText m byte ++ toCome (byteLeaves m byte) (unfinished line (byte ∷ [])) rest
+  unfolding linesFrom byteText byteLeaves unfinished
+  byte-owed rest =
+      by-test (eqb byte lineFeed)
+      (λ ends. rw (ends, turn-held m line byte stands) (turn-owed (m .desk) (line ++ (byte ∷ [])) (linesFrom [] rest) (stands .desk)))
+      (λ other. rw other)
+
+  byte-stands : Stands (byteLeaves m byte) (unfinished line (byte ∷ []))
+  unfolding byteLeaves unfinished
+  byte-stands =
+      let more : Holds (holding (m .held) byte) (line ++ (byte ∷ [])) = holds-more (m .held) line byte (stands .held) in
+      by-test (eqb byte lineFeed)
+      (λ ends. rw (ends, turn-held m line byte stands)
+      (record {
+        held = holds-none (holding (m .held) byte) (more .size);
+        free = λ i is. let z : _≡_ {A = ℕ} 0 lineFeed = is in omega arith;
+        desk = turn-right (m .desk) (line ++ (byte ∷ [])) (stands .desk);
+      }))
+      (λ other. rw other
+      (record { held = more; free = free-more line byte (stands .free) (eqb-false _ _ other); desk = stands .desk }))
+
+-- A piece, as far as it is taken.
+unfinished-more : (line first second : List ℕ) → unfinished line (first ++ second) ≡ unfinished (unfinished line first) second
+unfolding unfinished
+unfinished-more line [] second = refl
+unfinished-more line (byte ∷ first) second =
+    by-test (eqb byte lineFeed)
+    (λ ends. rw ends (unfinished-more [] first second))
+    (λ other. rw other (unfinished-more (line ++ (byte ∷ [])) first second))
+
+-- What a feeding brings: its share, for every rest of the text.
+record Share (m : Memory) (line taken text : List ℕ) (left : Memory) : Type 0 where
+  pub stands : Stands left (unfinished line taken)
+  pub text-owed : (rest : List ℕ) → toCome m line (taken ++ rest) ≡ text ++ toCome left (unfinished line taken) rest
+
+share-none : (m : Memory) (line : List ℕ) → Stands m line → Share m line [] [] m
+unfolding unfinished
+share-none m line stands = record { stands = stands; text-owed = λ rest. refl }
+
+share-more : (m : Memory) (line first text : List ℕ) (between : Memory) (second more : List ℕ) (left : Memory)
+    → Share m line first text between → Share between (unfinished line first) second more left
+    → Share m line (first ++ second) (text ++ more) left
+share-more m line first text between second more left one two =
+    record {
+      stands = rw (unfinished-more line first second) (two .stands);
+      text-owed = λ rest. rw (append-assoc first second rest, append-assoc text more (toCome left (unfinished line (first ++ second)) rest), unfinished-more line first second)
+          (one .text-owed (second ++ rest) ∙ ap (λ (l : List ℕ). text ++ l) (two .text-owed rest));
+    }
+
+byte-share : (m : Memory) (line : List ℕ) (byte : ℕ) → Stands m line → Share m line (byte ∷ []) (byteText m byte) (byteLeaves m byte)
+byte-share m line byte stands = record { stands = byte-stands m line byte stands; text-owed = byte-owed m line byte stands }
+
+feed-share : (m : Memory) (room : ℕ) (line piece : List ℕ) → Stands m line
+    → Share m line (take (feed m room piece .used) piece) (feed m room piece .text) (feed m room piece .left)
+unfolding feed
+feed-share m room line [] stands = share-none m line stands
+feed-share m room line (byte ∷ piece) stands =
+    by-test (ltb room longestReply)
+    (λ full. rw full (share-none m line stands))
+    (λ free. rw (free, one-add (feed (byteLeaves m byte) (room - length (byteText m byte)) piece .used))
+    (share-more m line (byte ∷ []) (byteText m byte) (byteLeaves m byte) _ _ _ (byte-share m line byte stands)
+    (feed-share (byteLeaves m byte) (room - length (byteText m byte)) (unfinished line (byte ∷ [])) piece (byte-stands m line byte stands))))
+
+-- What stands is ready for a step.
+step-ready : (m : Memory) (room : ℕ) (piece : List ℕ) → m .desk .stage .rows ≤ rowLimit → rowLimit * rowNumbers ≤ length (m .desk .table)
+    → stepOf m room piece ≡ feed m room piece
+unfolding stepOf
+step-ready m room piece rows size = rw (le-leb _ _ rows, le-leb _ _ size)
+
+course-share : (m : Memory) (line : List ℕ) (lents : List Lent) → Stands m line
+    → Share m line (course m lents .taken) (course m lents .written) (course m lents .left)
+unfolding course
+course-share m line [] stands = share-none m line stands
+course-share m line (lent ∷ more) stands =
+    let fed : Share m line (take (feed m (lent .room) (lent .piece) .used) (lent .piece)) (feed m (lent .room) (lent .piece) .text) (feed m (lent .room) (lent .piece) .left) =
+    feed-share m (lent .room) line (lent .piece) stands in
+    rw (step-ready m (lent .room) (lent .piece) (stands .desk .rows) (stands .desk .room))
+    (share-more m line _ _ (feed m (lent .room) (lent .piece) .left) _ _ _ fed
+    (course-share (feed m (lent .room) (lent .piece) .left) _ more (fed .stands)))
+
+-- The text's end.
+end-owed-in : (part : Part) (d : Desk) (line : List ℕ) (count : ℕ) → Right d → count ≡ min (length line) lineLimit → ((i : ℕ) → byteAt line i ≡ lineFeed → ⊥)
+    → owedIn part d (linesFrom line []) ≡ endText part (d .stage .rows) count
+unfolding linesFrom rulesFrom framesFrom
+end-owed-in Rules d [] count right is free = rw is
+end-owed-in Rules d (byte ∷ line) count right is free =
+    let held : eqb count 0 ≡ false = ne-eqb count 0 (λ nothing. omega arith) in
+    let other : eqb byte lineFeed ≡ false = ne-eqb byte lineFeed (free 0) in
+    let bytes : 0 < length (byte ∷ line) = omega arith in
+    rw (other, held, rows-read d right, said-cut ruleWidths (byte ∷ line) bytes free)
+end-owed-in Frames d [] count right is free = rw is
+end-owed-in Frames d (byte ∷ line) count right is free =
+    let held : eqb count 0 ≡ false = ne-eqb count 0 (λ nothing. omega arith) in
+    let bytes : 0 < length (byte ∷ line) = omega arith in
+    rw (held, said-cut frameWidths (byte ∷ line) bytes free) (append-nil _)
+end-owed-in Over d [] count right is free = refl
+end-owed-in Over d (byte ∷ line) count right is free = refl
+
+end-owed : (m : Memory) (line : List ℕ) → Stands m line → toCome m line [] ≡ endOf (stateIn m)
+unfolding endOf
+end-owed m line stands = end-owed-in (m .desk .stage .part) (m .desk) line (m .held .count) (stands .desk) (stands .held .count) (stands .free)
+
+fresh-stands : (table : List ℕ) → rowLimit * rowNumbers ≤ length table → Stands (memoryOf fresh table emptyStore) []
+unfolding fresh
+fresh-stands table room =
+    record {
+      held = record { size = refl; count = refl; bytes = refl };
+      free = λ i is. let z : _≡_ {A = ℕ} 0 lineFeed = is in omega arith;
+      desk = record { rows = omega arith; room = room; store = λ is. refl };
+    }
+
+fresh-owed : (table text : List ℕ) → toCome (memoryOf fresh table emptyStore) [] text ≡ transcript text
+unfolding transcript fresh
+fresh-owed table text = refl
+
+pub every-cutting : EveryCutting
+every-cutting table room lents =
+    let m : Memory = memoryOf fresh table emptyStore in
+    let share : Share m [] (course m lents .taken) (course m lents .written) (course m lents .left) = course-share m [] lents (fresh-stands table room) in
+    ap (λ (l : List ℕ). course m lents .written ++ l) (sym (end-owed (course m lents .left) (unfinished [] (course m lents .taken)) (share .stands)))
+    ∙ sym (share .text-owed [])
+    ∙ ap (toCome m []) (append-nil (course m lents .taken))
+    ∙ fresh-owed table (course m lents .taken)
+
+-- No line that is written is longer than the longest, so that a byte needs no more room.
+reply-short : (n first m second : ℕ) → n + m < longestReply → length (replyLine n first m second) ≤ longestReply
+reply-short n first m second fits = rw length-reply (omega arith)
+
+refusal-short : (number row : ℕ) → length (refusalLine number row) ≤ longestReply
+refusal-short number row = simp (length-append, length-digits, length-reply) (omega arith)
+
+start-short : (need : ℕ) (fault : Option Refused) → length (startText need fault) ≤ longestReply
+start-short need none = reply-short 0 0 8 need (omega arith)
+start-short need (some fault) = refusal-short (fault .number) (firstOf (fault .values))
+
+rule-short : (d : Desk) (said : Said) → length (ruleTurn d said .text) ≤ longestReply
+rule-short d end = omega arith
+rule-short d (numbers given) = omega arith
+rule-short d (refusal fault) = refusal-short (fault .number) (d .stage .rows)
+
+answer-short : (time : ℕ) (reply : Reply) → length (replyOf time reply) ≤ longestReply
+answer-short time (step.verdict holds) = reply-short 12 time 2 (verdictNumber holds) (omega arith)
+answer-short time (step.refusal fault) = refusal-short (fault .number) (firstOf (fault .values))
+
+frame-short : (s : Running) (said : Said) → length (frameReply s said) ≤ longestReply
+frame-short s end = omega arith
+frame-short s (numbers given) = answer-short (judged s (frameOf given) .left .time) (judged s (frameOf given) .reply)
+frame-short s (refusal fault) = refusal-short (fault .number) (firstOf (fault .values))
+
+turn-short-in : (part : Part) (d : Desk) (line : List ℕ) → length (turnIn part d line .text) ≤ longestReply
+unfolding beforeFrames
+turn-short-in Rules d line =
+    by-test (eqb (byteAt line 0) lineFeed) (λ empty. rw empty (start-short (needOf (rowsRead d)) (startOf (rowsRead d) (d .store) .refusal)))
+    (λ other. rw other
+    (by-test (leb rowLimit (d .stage .rows)) (λ all. rw all (refusal-short (numberOf Length) 0))
+    (λ fewer. rw fewer (rule-short d (readRule line 0 .said)))))
+turn-short-in Frames d line = frame-short (runningAt d) (readFrame line 0 .said)
+turn-short-in Over d line = omega arith
+
+byte-short : (m : Memory) (byte : ℕ) → length (byteText m byte) ≤ longestReply
+unfolding byteText
+byte-short m byte =
+    by-test (eqb byte lineFeed) (λ ends. rw ends (turn-short-in (m .desk .stage .part) (m .desk) (heldLine (holding (m .held) byte))))
+    (λ other. rw other (omega arith))
+
+feed-all : (m : Memory) (room : ℕ) (piece : List ℕ) → longestReply * length piece ≤ room → feed m room piece .used ≡ length piece
+unfolding feed
+feed-all m room [] roomy = refl
+feed-all m room (byte ∷ piece) roomy =
+    let short : length (byteText m byte) ≤ longestReply = byte-short m byte in
+    let free : ltb room longestReply ≡ false = le-ltb room longestReply (omega arith) in
+    let rest : feed (byteLeaves m byte) (room - length (byteText m byte)) piece .used ≡ length piece = feed-all (byteLeaves m byte) (room - length (byteText m byte)) piece (omega arith) in
+    rw free (omega arith)
+
+course-all : (m : Memory) (line : List ℕ) (lents : List Lent) → Stands m line → Roomy lents → course m lents .taken ≡ joined lents
+unfolding course
+course-all m line [] stands roomy = refl
+course-all m line (lent ∷ more) stands roomy =
+    let fed = feed-share m (lent .room) line (lent .piece) stands in
+    rw (step-ready m (lent .room) (lent .piece) (stands .desk .rows) (stands .desk .room), feed-all m (lent .room) (lent .piece) (roomy .0), take-length (lent .piece), course-all (feed m (lent .room) (lent .piece) .left) _ more (fed .stands) (roomy .1))
+
+pub every-byte-taken : EveryByteTaken
+every-byte-taken table room lents roomy = course-all (memoryOf fresh table emptyStore) [] lents (fresh-stands table room) roomy
+
+pub some-byte-taken : SomeByteTaken
+unfolding feed
+some-byte-taken m room [] rows size free bytes = absurd (omega arith)
+some-byte-taken m room (byte ∷ piece) rows size free bytes =
+    rw (step-ready m room (byte ∷ piece) rows size) (rw (le-ltb _ _ free) (omega arith))

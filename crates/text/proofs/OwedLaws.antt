@@ -1,0 +1,141 @@
+-- What is still to be written for the lines to come, from what there is between two lines; and that a line writes its share of it.
+use mathlib.Core.Bool.{true, false, cond}
+use mathlib.Core.List.{List, [], _∷_, _++_, append-assoc, append-nil}
+use mathlib.Core.Option.{Option, none, some}
+use mathlib.Core.Path.{_≡_, refl, sym, ap, _∙_}
+use Prim.Native.Nat.{ℕ, suc, _+_, _-_, _*_, _/_, _≤_, _<_}
+use native.Mathlib.Omega.{arith}
+use borrow.Author.Tests.{leb-true, leb-false, le-leb, lt-leb, eq-eqb, ne-eqb}
+use lib.Dec.{leb, eqb}
+use lib.ListN.{length, take}
+use lib.Seq.{length-take-le}
+use Rattle.rules.specs.Limits.{rowLimit, rowNumbers}
+use Rattle.rules.specs.Refusals.{Refused}
+use Rattle.rules.specs.Rows.{rowsOf}
+use Rattle.rules.specs.Stretches.{needOf}
+use Rattle.lines.specs.Digits.{byteAt, over}
+use Rattle.lines.specs.Line.{lineFeed}
+use Rattle.lines.specs.Read.{Said, end, numbers, refusal, numbersAt}
+use Rattle.lines.specs.Frame.{readFrame}
+use Rattle.lines.specs.Rule.{ruleWidths, readRule}
+use Rattle.lines.proofs.Tests.{by-test}
+use Rattle.monitor.specs.Start.{Beginning, startOf}
+use Rattle.text.specs.declared.state.Part.{Part}
+use Rattle.text.specs.declared.state.Part.the-variants.{Rules, Frames, Over}
+use Rattle.text.specs.Transcript.{emptyStore, Running, frameLeaves, framesFrom, begun, tableThen, ruleFault, withRule, unlessFault, rulesFrom}
+use Rattle.text.specs.Turn.{Desk, Turn, rowsRead, runningAt, startTurn, startPart, startText, ruleTurn, beforeFrames, frameTurn, turnIn, turnOf}
+use Rattle.text.proofs.OverLaws.{take-over, length-over}
+use Rattle.text.proofs.TurnLaws.{turn-rows}
+use Rattle.text.proofs.AgreeLaws.{said-by}
+
+abbrev pub owedIn : Part → Desk → List (List ℕ) → List ℕ
+owedIn Rules d lines = rulesFrom (rowsRead d) lines
+owedIn Frames d lines = framesFrom (runningAt d) lines
+owedIn Over d lines = []
+
+abbrev pub owed : Desk → List (List ℕ) → List ℕ
+owed d lines = owedIn (d .stage .part) d lines
+
+-- The rows read fit the table that is lent, and before the empty line the store is as the program lends it.
+pub record Right (d : Desk) : Type 0 where
+  pub rows : d .stage .rows ≤ rowLimit
+  pub room : rowLimit * rowNumbers ≤ length (d .table)
+  pub store : d .stage .part ≡ Rules → d .store ≡ emptyStore
+
+pub rows-read : (d : Desk) → Right d → rowsOf (rowsRead d) ≡ d .stage .rows
+rows-read d right =
+    let rows : d .stage .rows ≤ rowLimit = right .rows in
+    let room : rowLimit * rowNumbers ≤ length (d .table) = right .room in
+    let size : length (rowsRead d) ≡ d .stage .rows * rowNumbers = length-take-le (d .stage .rows * rowNumbers) (d .table) (omega arith) in
+    rw size (omega arith)
+
+-- The empty line.
+start-owed : (d : Desk) (lines : List (List ℕ)) (start : Beginning)
+    → begun (rowsRead d) lines start ≡ startTurn d start .text ++ owed (startTurn d start .left) lines
+start-owed d lines start = by (start .refusal) refl
+  where
+    by : (fault : Option Refused) → start .refusal ≡ fault → begun (rowsRead d) lines start ≡ startTurn d start .text ++ owed (startTurn d start .left) lines
+    by none is = rw is
+    by (some fault) is = rw is (sym (append-nil _))
+
+-- A rule line.
+rule-owed : (d : Desk) (line : List ℕ) (lines : List (List ℕ)) → Right d → d .stage .part ≡ Rules
+    → unlessFault (d .stage .rows) (ruleFault (readRule line 0 .said)) (rulesFrom (withRule (rowsRead d) (readRule line 0 .said)) lines)
+    ≡ ruleTurn d (readRule line 0 .said) .text ++ owed (ruleTurn d (readRule line 0 .said) .left) lines
+rule-owed d line lines right part =
+    let given : List ℕ = numbersAt line 0 0 ruleWidths in
+    let place : ℕ = d .stage .rows * rowNumbers in
+    let rows : d .stage .rows ≤ rowLimit = right .rows in
+    let room : rowLimit * rowNumbers ≤ length (d .table) = right .room in
+    let on : (d .stage .rows + 1) * rowNumbers ≡ place + length given = omega arith in
+    let table : take ((d .stage .rows + 1) * rowNumbers) (over (d .table) place given) ≡ rowsRead d ++ given = rw on (take-over (d .table) place (omega arith) given) in
+    said-by
+    (λ (said : Said). unlessFault (d .stage .rows) (ruleFault said) (rulesFrom (withRule (rowsRead d) said) lines) ≡ ruleTurn d said .text ++ owed (ruleTurn d said .left) lines)
+    ruleWidths line
+    (rw part)
+    (rw table)
+    (λ fault. sym (append-nil _))
+
+-- A frame's line.
+frame-left : (d : Desk) (said : Said) → frameLeaves (runningAt d) said ≡ runningAt (frameTurn d said .left)
+frame-left d end = refl
+frame-left d (numbers given) = refl
+frame-left d (refusal fault) = refl
+
+turn-owed-in : (part : Part) (d : Desk) (line : List ℕ) (lines : List (List ℕ)) → Right d → d .stage .part ≡ part
+    → owedIn part d (line ∷ lines) ≡ turnIn part d line .text ++ owed (turnIn part d line .left) lines
+unfolding rulesFrom tableThen framesFrom beforeFrames
+turn-owed-in Rules d line lines right part =
+    by-test (eqb (byteAt line 0) lineFeed)
+    (λ empty. rw (empty, ← right .store part) (start-owed d lines (startOf (rowsRead d) (d .store))))
+    (λ other. rw (other, rows-read d right)
+    (by-test (leb rowLimit (d .stage .rows))
+    (λ all. rw all (sym (append-nil _)))
+    (λ fewer. rw fewer (rule-owed d line lines right part))))
+turn-owed-in Frames d line lines right part = rw (frame-left d (readFrame line 0 .said))
+turn-owed-in Over d line lines right part = rw part
+
+pub turn-owed : (d : Desk) (line : List ℕ) (lines : List (List ℕ)) → Right d → owed d (line ∷ lines) ≡ turnOf d line .text ++ owed (turnOf d line .left) lines
+turn-owed d line lines right = turn-owed-in (d .stage .part) d line lines right refl
+
+-- The table keeps its length, and the store is the program's until the empty line.
+record Kept (d : Desk) (turn : Turn) : Type 0 where
+  pub table : length (turn .left .table) ≡ length (d .table)
+  pub store : turn .left .stage .part ≡ Rules → turn .left .store ≡ emptyStore
+
+not-frames : Frames ≡ Rules → ⊥
+not-frames is = let z : _≡_ {A = ℕ} 0 1 = cc in omega arith
+
+not-over : Over ≡ Rules → ⊥
+not-over is = let z : _≡_ {A = ℕ} 0 1 = cc in omega arith
+
+not-started : (fault : Option Refused) → startPart fault ≡ Rules → ⊥
+not-started none is = not-frames is
+not-started (some fault) is = not-over is
+
+turn-kept-in : (part : Part) (d : Desk) (line : List ℕ) → Right d → d .stage .part ≡ part → Kept d (turnIn part d line)
+unfolding beforeFrames
+turn-kept-in Rules d line right part =
+    let room : rowLimit * rowNumbers ≤ length (d .table) = right .room in
+    by-test (eqb (byteAt line 0) lineFeed)
+    (λ empty. rw empty (record { table = refl; store = λ is. absurd (not-started (startOf (rowsRead d) (d .store) .refusal) is) }))
+    (λ other. rw other
+    (by-test (leb rowLimit (d .stage .rows))
+    (λ all. rw all (record { table = refl; store = λ is. absurd (not-over is) }))
+    (λ fewer. rw fewer
+    (let below : d .stage .rows < rowLimit = leb-false _ _ fewer in
+    said-by (λ (said : Said). Kept d (ruleTurn d said)) ruleWidths line
+    (record { table = refl; store = right .store })
+    (record {
+      table = length-over (d .table) (d .stage .rows * rowNumbers) (numbersAt line 0 0 ruleWidths) (omega arith);
+      store = λ is. right .store part;
+    })
+    (λ fault. record { table = refl; store = λ is. absurd (not-over is) })))))
+turn-kept-in Frames d line right part = record { table = refl; store = λ is. absurd (not-frames is) }
+turn-kept-in Over d line right part = record { table = refl; store = right .store }
+
+pub turn-right : (d : Desk) (line : List ℕ) → Right d → Right (turnOf d line .left)
+turn-right d line right =
+    let room : rowLimit * rowNumbers ≤ length (d .table) = right .room in
+    let kept : Kept d (turnOf d line) = turn-kept-in (d .stage .part) d line right refl in
+    record { rows = turn-rows d line (right .rows); room = omega arith; store = kept .store }

@@ -1,0 +1,124 @@
+-- What a line brings, from what was read of it and what the monitor answered.
+use mathlib.Core.Bool.{Bool, true, false, cond}
+use mathlib.Core.List.{List, [], _∷_, append-assoc}
+use mathlib.Core.Option.{Option, none, some}
+use mathlib.Core.Path.{_≡_, refl, sym, ap, subst, _∙_}
+use Prim.Native.Nat.{ℕ, _+_, _*_, _≤_, _<_}
+use native.Mathlib.Omega.{arith}
+use borrow.Author.Tests.{leb-false}
+use lib.Dec.{leb, eqb}
+use native.Mathlib.Numerals.{add-one, add-two, add-three, add-four}
+use lib.ListN.{length, take, drop, set}
+use lib.Seq.{sets-eq}
+use Rattle.rules.specs.Limits.{rowLimit, rowNumbers}
+use Rattle.rules.specs.Refusals.{Refused, refused}
+use Rattle.rules.specs.Rows.{rowsOf}
+use Rattle.rules.specs.Stretches.{needOf}
+use Rattle.rules.specs.Table.{Said, passed, refusedBy, saidOf, lengthPasses, firstFault, checkOf}
+use Rattle.rules.specs.declared.refusal.Refusal.{Refusal}
+use Rattle.rules.specs.declared.refusal.Refusal.the-variants.{Length}
+use Rattle.lines.specs.Digits.{byteAt, over}
+use Rattle.lines.specs.Line.{lineFeed}
+use Rattle.lines.specs.Rule.{readRule}
+use Rattle.lines.specs.Read as read
+use Rattle.monitor.specs.Ready.{withRoom, readyOf}
+use Rattle.monitor.specs.Start.{begin, startOf, startRefusal, saidStart}
+use Rattle.monitor.specs.Step.{Outcome, said, saidStep, stepOf, frame}
+use Rattle.monitor.specs.Step as step
+use Rattle.monitor.specs.declared.answer.StartAnswer.{StartAnswer}
+use Rattle.monitor.specs.declared.answer.StartAnswer.the-variants as StartAnswer
+use Rattle.monitor.specs.declared.answer.Answer.the-variants as Answer
+use Rattle.monitor.specs.declared.answer.Started.{Started}
+use Rattle.monitor.specs.declared.answer.Judged.{Judged}
+use Rattle.text.specs.declared.state.Stage.{Stage}
+use Rattle.text.specs.declared.state.Part.{Part}
+use Rattle.text.specs.declared.state.Part.the-variants.{Rules, Frames, Over}
+use Rattle.text.specs.declared.turn.Told.{Told}
+use Rattle.text.specs.Replies.{needLine, verdictLine, refusedLine, Wrote}
+use Rattle.text.specs.Transcript.{judged, replyOf}
+use Rattle.text.specs.Turn.{Desk, Turn, desk, rowsRead, runningAt, needSaid, staged, ruleTurn, startTurn, beforeFrames, frameTurn, turnIn, turnOf, Turned}
+use Rattle.lines.proofs.Tests.{by-test, clash}
+use Rattle.text.proofs.WroteLaws.{wrote-none}
+
+-- What was read is what was found.
+pub read-found : {F : Type 0} (found : F → read.Said) (r : F) (next : ℕ) (given : read.Read) (f : F)
+    → record { said = found r; next = next } ≡ given → r ≡ f → given .said ≡ found f
+read-found found r next given f is known = sym (ap (λ (x : read.Read). x .said) is) ∙ ap found known
+
+-- Nothing changes, and nothing is written.
+pub turned-nothing : (d : Desk) (out : List ℕ) (place : ℕ)
+    → Turned (record { left = d; text = [] }) out place (record { stage = d .stage; place = place }) (d .table) (d .store) out
+turned-nothing d out place = record { left = refl; wrote = wrote-none out place }
+
+-- Five numbers stored one after the other.
+pub row-stored : (table : List ℕ) (place kind x y a b : ℕ) → place + rowNumbers ≤ length table
+    → set (set (set (set (set table place kind) (place + 1) x) (place + 2) y) (place + 3) a) (place + 4) b ≡ over table place (kind ∷ x ∷ y ∷ a ∷ b ∷ [])
+row-stored table place kind x y a b room =
+    let row : List ℕ = kind ∷ x ∷ y ∷ a ∷ b ∷ [] in
+    rw (add-one place, add-two place, add-three place, add-four place)
+    (sets-eq row table place room ∙ append-assoc (take place table) row (drop (place + rowNumbers) table))
+
+refusal-clash : (fault : Refused) → some fault ≡ none → ⊥
+refusal-clash fault is = let z : _≡_ {A = ℕ} 0 1 = cc in omega arith
+
+-- A start that is not refused has a table that passes, and its need is the table's.
+pub start-need : (table store : List ℕ) → startOf table store .refusal ≡ none → needSaid (checkOf table) ≡ needOf table
+unfolding startOf readyOf checkOf
+start-need table store good =
+    by-test (lengthPasses (length table))
+    (λ passes. rw passes (by-fault (firstFault table (rowsOf table)) (rw passes at good)))
+    (λ fails. absurd (refusal-clash (refused Length) (rw fails at good)))
+  where
+    by-fault : (fault : Option Refused) → begin store (withRoom (length store) (saidOf fault (rowsOf table) (needOf table))) .refusal ≡ none
+        → needSaid (saidOf fault (rowsOf table) (needOf table)) ≡ needOf table
+    by-fault none good = refl
+    by-fault (some fault) good = absurd (refusal-clash fault good)
+
+module _ (d : Desk) (out : List ℕ) (place next : ℕ) (after : List ℕ) where
+  pub start-good : (s : Started) (store : List ℕ) → saidStart s store ≡ startOf (rowsRead d) (d .store) → s .answer ≡ StartAnswer.Good
+      → Wrote out place (needLine (needSaid (checkOf (rowsRead d)))) next after
+      → Turned (startTurn d (startOf (rowsRead d) (d .store))) out place (record { stage = staged Frames (d .stage .rows) (s .record); place = next }) (d .table) store after
+  start-good s store is good wrote =
+      let started : startOf (rowsRead d) (d .store) .refusal ≡ none = rw (← is, good) in
+      record {
+        left = rw (← is, good);
+        wrote = rw (started, ← start-need (rowsRead d) (d .store) started) wrote;
+      }
+
+  pub start-refused : (s : Started) (store : List ℕ) (fault : Refusal) → saidStart s store ≡ startOf (rowsRead d) (d .store) → s .answer ≡ StartAnswer.Refused fault
+      → Wrote out place (refusedLine (refused fault)) next after
+      → Turned (startTurn d (startOf (rowsRead d) (d .store))) out place (record { stage = staged Over (d .stage .rows) (s .record); place = next }) (d .table) store after
+  start-refused s store fault is refusal wrote = record { left = rw (← is, refusal); wrote = rw (← is, refusal) wrote }
+
+  -- What a frame's answer brings.
+  pub frame-told : (counter mask : ℕ) (j : Judged) (store line : List ℕ)
+      → saidStep j store ≡ judged (runningAt d) (frame counter mask)
+      → replyOf (j .record .time) (said (j .answer)) ≡ line
+      → Wrote out place line next after
+      → Turned (frameTurn d (read.numbers (counter ∷ mask ∷ []))) out place (record { stage = staged Frames (d .stage .rows) (j .record); place = next }) (d .table) store after
+  frame-told counter mask j store line is reply wrote = record { left = rw (← is); wrote = rw (← is, reply) wrote }
+
+-- The part of the text decides.
+pub turned-in : (part : Part) (d : Desk) (line out : List ℕ) (place : ℕ) (told : Told) (table store after : List ℕ) → d .stage .part ≡ part
+    → Turned (turnIn part d line) out place told table store after → Turned (turnOf d line) out place told table store after
+turned-in part d line out place told table store after is turned =
+    subst (λ (p : Part). Turned (turnIn p d line) out place told table store after) (sym is) turned
+
+-- No line brings more rows than a table may have.
+rule-rows : (d : Desk) (given : read.Said) → d .stage .rows < rowLimit → ruleTurn d given .left .stage .rows ≤ rowLimit
+rule-rows d read.end fewer = omega arith
+rule-rows d (read.numbers given) fewer = omega arith
+rule-rows d (read.refusal fault) fewer = omega arith
+
+turn-rows-in : (part : Part) (d : Desk) (line : List ℕ) → d .stage .rows ≤ rowLimit → turnIn part d line .left .stage .rows ≤ rowLimit
+unfolding beforeFrames
+turn-rows-in Rules d line most =
+    by-test (eqb (byteAt line 0) lineFeed) (λ empty. rw empty most)
+    (λ more. rw more
+    (by-test (leb rowLimit (d .stage .rows)) (λ all. rw all most)
+    (λ fewer. rw fewer (rule-rows d (readRule line 0 .said) (leb-false _ _ fewer)))))
+turn-rows-in Frames d line most = most
+turn-rows-in Over d line most = most
+
+pub turn-rows : (d : Desk) (line : List ℕ) → d .stage .rows ≤ rowLimit → turnOf d line .left .stage .rows ≤ rowLimit
+turn-rows d line most = turn-rows-in (d .stage .part) d line most

@@ -1,0 +1,93 @@
+-- `text::turn::judge` meets its contract: the monitor's answer decides. Assumes nothing.
+use mathlib.Core.Path.{_≡_}
+use Prim.Native.Nat.{_*_, _-_}
+use native.Mathlib.Omega.{arith}
+use borrow.Author.Needs.{needs}
+use Rattle.rules.specs.Limits.{rowNumbers}
+use Rattle.text.specs.Turn.{desk}
+use Rattle.text.proofs.TurnLaws.{frame-told}
+use Rattle.text.proofs.turn.judge.Statement.{statement}
+use Rattle.text.proofs.turn.judge.Tie as tie
+
+mul-end : tie.Need-mul-end
+mul-end c = search needs
+
+sub-frame : tie.Need-sub-frame
+sub-frame c = search needs
+
+part-frame-start : tie.Need-part-frame-start
+part-frame-start c = search needs
+
+part-frame-end : tie.Need-part-frame-end
+part-frame-end c = search needs
+
+frame-requires : tie.Need-frame-requires
+frame-requires c κs = search needs
+
+enum-known-answer : tie.Need-enum-known-answer
+enum-known-answer c = search needs
+
+write-verdict-requires : tie.Need-write-verdict-requires
+write-verdict-requires c κs = search needs
+
+enum-known-answer-2 : tie.Need-enum-known-answer-2
+enum-known-answer-2 c = search needs
+
+write-refused-requires : tie.Need-write-refused-requires
+write-refused-requires c κs = search needs
+
+same-length : tie.Need-same-length
+same-length c = search needs
+
+same-length-2 : tie.Need-same-length-2
+same-length-2 c = search needs
+
+returns : tie.Need-returns
+returns c =
+    let told = c .before .before in
+    let known = told .before .before .before in
+    let judged = known .before .before .before .before .before in
+    let entry = judged .before .before .before .before .before .before .before .args in
+    let whole : entry .stage .rows * rowNumbers - 0 ≡ entry .stage .rows * rowNumbers = omega arith in
+    frame-told (desk (entry .stage) (entry .table .now) (entry .store .now)) _ _ _ _ _ _ (judged .frame .result) _ _
+    (rw whole at (judged .frame .ensures))
+    (rw (known .answer .given .1))
+    (told .write-verdict .ensures)
+
+same-length-3 : tie.Need-same-length-3
+same-length-3 c = search needs
+
+same-length-4 : tie.Need-same-length-4
+same-length-4 c = search needs
+
+returns-2 : tie.Need-returns-2
+returns-2 c =
+    let told = c .before .before in
+    let known = told .before .before .before in
+    let judged = known .before .before .before .before .before in
+    let entry = judged .before .before .before .before .before .before .before .args in
+    let whole : entry .stage .rows * rowNumbers - 0 ≡ entry .stage .rows * rowNumbers = omega arith in
+    frame-told (desk (entry .stage) (entry .table .now) (entry .store .now)) _ _ _ _ _ _ (judged .frame .result) _ _
+    (rw whole at (judged .frame .ensures))
+    (rw (known .answer2 .given .1))
+    (told .write-refused .ensures)
+
+pub judge-spec : {M : Type 1} → statement M
+judge-spec =
+    tie.close
+    (tie.spec
+    mul-end
+    sub-frame
+    part-frame-start
+    part-frame-end
+    frame-requires
+    enum-known-answer
+    write-verdict-requires
+    enum-known-answer-2
+    write-refused-requires
+    same-length
+    same-length-2
+    returns
+    same-length-3
+    same-length-4
+    returns-2)

@@ -1,0 +1,69 @@
+-- What the program promises of its text: for every text and every cutting of it into pieces, also empty ones, what the steps write in order, then
+-- what the text's end writes, is the transcript of the text. The store that is lent begins with every word 0.
+use mathlib.Core.List.{List, [], _∷_, _++_}
+use mathlib.Core.Path.{_≡_}
+use Prim.Native.Nat.{ℕ, _*_, _≤_, _<_}
+use lib.ListN.{length, take}
+use Rattle.rules.specs.Limits.{rowLimit, rowNumbers}
+use Rattle.text.specs.declared.state.State.{State}
+use Rattle.text.specs.Replies.{longestReply}
+use Rattle.text.specs.Transcript.{emptyStore, transcript}
+use Rattle.text.specs.Feed.{Memory, stepOf, memoryOf, fresh, endOf}
+
+-- A piece, and the room of the output that is lent for it.
+pub record Lent : Type 0 where
+  pub piece : List ℕ
+  pub room : ℕ
+
+-- What a list of steps leaves, the bytes that they took, and what they wrote, in order.
+pub record Course : Type 0 where
+  pub left : Memory
+  pub taken : List ℕ
+  pub written : List ℕ
+
+abbrev pub andOn : Memory → Lent → Course → Course
+andOn m lent rest =
+    record {
+      left = rest .left;
+      taken = take (stepOf m (lent .room) (lent .piece) .used) (lent .piece) ++ rest .taken;
+      written = stepOf m (lent .room) (lent .piece) .text ++ rest .written;
+    }
+
+unfoldable pub course : Memory → List Lent → Course
+course m [] = record { left = m; taken = []; written = [] }
+course m (lent ∷ more) = andOn m lent (course (stepOf m (lent .room) (lent .piece) .left) more)
+
+abbrev pub stateIn : Memory → State
+stateIn m = record { held = m .held; stage = m .desk .stage }
+
+-- From the first byte on, with a table that is lent.
+abbrev pub courseOf : List ℕ → List Lent → Course
+courseOf table lents = course (memoryOf fresh table emptyStore) lents
+
+-- The pieces and their rooms are any: of a piece that was not taken whole the caller brings the rest again, or not.
+abbrev pub EveryCutting : Type 0
+EveryCutting = (table : List ℕ)
+    → rowLimit * rowNumbers ≤ length table
+    → (lents : List Lent)
+    → courseOf table lents .written ++ endOf (stateIn (courseOf table lents .left)) ≡ transcript (courseOf table lents .taken)
+
+-- Where each piece has room for a line a byte, every byte is taken: the text is the pieces, one after the other.
+abbrev pub joined : List Lent → List ℕ
+joined [] = []
+joined (lent ∷ more) = lent .piece ++ joined more
+
+abbrev pub Roomy : List Lent → Type 0
+Roomy [] = Unit
+Roomy (lent ∷ more) = (longestReply * length (lent .piece) ≤ lent .room) × Roomy more
+
+abbrev pub EveryByteTaken : Type 0
+EveryByteTaken = (table : List ℕ) → rowLimit * rowNumbers ≤ length table → (lents : List Lent) → Roomy lents → courseOf table lents .taken ≡ joined lents
+
+-- Where there is room for one line, a piece that is not empty is not taken in vain.
+abbrev pub SomeByteTaken : Type 0
+SomeByteTaken = (m : Memory) (room : ℕ) (piece : List ℕ)
+    → m .desk .stage .rows ≤ rowLimit
+    → rowLimit * rowNumbers ≤ length (m .desk .table)
+    → longestReply ≤ room
+    → 0 < length piece
+    → 0 < stepOf m room piece .used

@@ -1,0 +1,45 @@
+-- The lines that the program writes (document 01, "The program's text": "Output lines, each ended by a line feed").
+use mathlib.Core.Bool.{Bool, true, false}
+use mathlib.Core.List.{List, [], _∷_, _++_}
+use mathlib.Core.Path.{_≡_}
+use Prim.Native.Nat.{ℕ, _+_}
+use lib.ListN.{length}
+use Rattle.lines.specs.Digits.{digits, over}
+use Rattle.lines.specs.Line.{lineFeed}
+use Rattle.rules.specs.Refusals.{Refused, firstOf}
+
+-- A line of two numbers, each in so many digits.
+unfoldable pub replyLine : (n first m second : ℕ) → List ℕ
+replyLine n first m second = digits n first ++ (digits m second ++ (lineFeed ∷ []))
+
+-- "need in 8 digits".
+abbrev pub needLine : ℕ → List ℕ
+needLine need = replyLine 0 0 8 need
+
+-- "per frame 12 digits of time and 00 or 01".
+abbrev pub verdictNumber : Bool → ℕ
+verdictNumber true = 1
+verdictNumber false = 0
+
+abbrev pub verdictLine : ℕ → Bool → List ℕ
+verdictLine time holds = replyLine 12 time 2 (verdictNumber holds)
+
+-- "per refusal EE, number 2 digits, row or 00".
+abbrev pub refusalMark : ℕ
+refusalMark = 0xEE
+
+abbrev pub refusalLine : ℕ → ℕ → List ℕ
+refusalLine number row = digits 2 refusalMark ++ replyLine 2 number 2 row
+
+-- A refusal with the row that it gives, or 00.
+abbrev pub refusedLine : Refused → List ℕ
+refusedLine fault = refusalLine (fault .number) (firstOf (fault .values))
+
+-- No line is longer than a verdict's.
+abbrev pub longestReply : ℕ
+longestReply = 15
+
+-- A line is written at a place, over what is there; the next place is the one after it.
+pub record Wrote (out : List ℕ) (place : ℕ) (line : List ℕ) (next : ℕ) (after : List ℕ) : Type 0 where
+  pub place-after : next ≡ place + length line
+  pub bytes : after ≡ over out place line

@@ -1,0 +1,104 @@
+-- The whole output of the program for a whole input (document 01, "The program's text"), line by line.
+use mathlib.Core.Bool.{cond}
+use mathlib.Core.List.{List, [], _∷_, _++_}
+use mathlib.Core.Option.{Option, none, some}
+use Prim.Native.Nat.{ℕ}
+use lib.Dec.{leb, eqb}
+use lib.ListN.{getD, replicate}
+use Rattle.rules.specs.Limits.{rowLimit}
+use Rattle.rules.specs.Refusals.{Refused, numberOf}
+use Rattle.rules.specs.Rows.{rowsOf}
+use Rattle.rules.specs.Stretches.{needOf}
+use Rattle.rules.specs.declared.refusal.Refusal.the-variants.{Length, Line}
+use Rattle.lines.specs.Digits.{byteAt}
+use Rattle.lines.specs.Line.{lineFeed}
+use Rattle.lines.specs.Read.{Said, end, numbers}
+use Rattle.lines.specs.Read as read
+use Rattle.lines.specs.Frame.{readFrame}
+use Rattle.lines.specs.Rule.{readRule}
+use Rattle.monitor.specs.declared.record.Record.{Record}
+use Rattle.monitor.specs.Start.{Beginning, startOf}
+use Rattle.monitor.specs.Step.{Call, frame, Reply, verdict, refusal, Outcome, stepOf}
+use Rattle.text.specs.Lines.{linesOf}
+use Rattle.text.specs.Replies.{needLine, verdictLine, refusalLine, refusedLine}
+
+-- "The program's store is 8,192 words."
+abbrev pub storeWords : ℕ
+storeWords = 8_192
+
+unfoldable pub emptyStore : List ℕ
+emptyStore = replicate storeWords 0
+
+-- What the monitor has between two frames.
+pub record Running : Type 0 where
+  pub table : List ℕ
+  pub found : Record
+  pub store : List ℕ
+
+abbrev pub judged : Running → Call → Outcome
+judged s c = stepOf (record { table = s .table }) (s .store) (s .found) c
+
+-- The frame of a good line: its counter and mask.
+abbrev pub frameOf : List ℕ → Call
+frameOf given = frame (getD given 0 0) (getD given 1 0)
+
+-- "per frame 12 digits of time and 00 or 01; per refusal EE, number 2 digits, row or 00".
+abbrev pub replyOf : ℕ → Reply → List ℕ
+replyOf time (verdict holds) = verdictLine time holds
+replyOf time (refusal fault) = refusedLine fault
+
+abbrev pub frameReply : Running → Said → List ℕ
+frameReply s end = []
+frameReply s (numbers given) = replyOf (judged s (frameOf given) .left .time) (judged s (frameOf given) .reply)
+frameReply s (read.refusal fault) = refusedLine fault
+
+-- A line that is refused leaves record and store, and so does a frame that is.
+abbrev pub frameLeaves : Running → Said → Running
+frameLeaves s end = s
+frameLeaves s (numbers given) =
+    record { table = s .table; found = judged s (frameOf given) .left; store = judged s (frameOf given) .store }
+frameLeaves s (read.refusal fault) = s
+
+unfoldable pub framesFrom : Running → List (List ℕ) → List ℕ
+framesFrom s [] = []
+framesFrom s (line ∷ lines) = frameReply s (readFrame line 0 .said) ++ framesFrom (frameLeaves s (readFrame line 0 .said)) lines
+
+-- "The table is checked at the empty line; a need over the store gives EE0400 in place of the need. After any refusal up to or at the empty line
+-- nothing more is written."
+abbrev pub begun : List ℕ → List (List ℕ) → Beginning → List ℕ
+begun table lines start = by (start .refusal)
+  where
+    by : Option Refused → List ℕ
+    by none = needLine (needOf table) ++ framesFrom (record { table = table; found = start .given; store = start .store }) lines
+    by (some fault) = refusedLine fault
+
+unfoldable pub tableThen : List ℕ → List (List ℕ) → List ℕ
+tableThen table lines = begun table lines (startOf table emptyStore)
+
+-- A rule line's fault, if it has one, and the table with the numbers of a good one.
+abbrev pub ruleFault : Said → Option Refused
+ruleFault end = none
+ruleFault (numbers given) = none
+ruleFault (read.refusal fault) = some fault
+
+abbrev pub withRule : List ℕ → Said → List ℕ
+withRule table end = table
+withRule table (numbers given) = table ++ given
+withRule table (read.refusal fault) = table
+
+-- "A bad rule line is EE08 or EE09 with its line counted from 00".
+abbrev pub unlessFault : ℕ → Option Refused → List ℕ → List ℕ
+unlessFault line none more = more
+unlessFault line (some fault) more = refusalLine (fault .number) line
+
+-- "an empty line", which ends the rules; "a 65th line before the empty one EE0100, whatever it holds"; "text that ends at a line's start before the
+-- empty line EE0800". A line cut off by the text's end is a bad line, since it has no line feed.
+unfoldable pub rulesFrom : List ℕ → List (List ℕ) → List ℕ
+rulesFrom table [] = refusalLine (numberOf Line) 0
+rulesFrom table (line ∷ lines) =
+    cond (eqb (byteAt line 0) lineFeed) (tableThen table lines)
+    (cond (leb rowLimit (rowsOf table)) (refusalLine (numberOf Length) 0)
+    (unlessFault (rowsOf table) (ruleFault (readRule line 0 .said)) (rulesFrom (withRule table (readRule line 0 .said)) lines)))
+
+unfoldable pub transcript : List ℕ → List ℕ
+transcript text = rulesFrom [] (linesOf text)

@@ -1,0 +1,130 @@
+-- What a whole line brings, by the part of the text that it stands in: what it leaves of the state, the table and the store that are lent, and
+-- what is written (document 01, "The program's text").
+use mathlib.Core.Bool.{cond}
+use mathlib.Core.List.{List, []}
+use mathlib.Core.Path.{_≡_}
+use mathlib.Core.Option.{Option, none, some}
+use Prim.Native.Nat.{ℕ, _+_, _*_, _≤_}
+use lib.Dec.{leb, eqb}
+use lib.ListN.{length, take}
+use Rattle.rules.specs.Limits.{rowLimit, rowNumbers}
+use Rattle.rules.specs.Refusals.{Refused, numberOf}
+use Rattle.rules.specs.Stretches.{needOf}
+use Rattle.rules.specs.Table as table
+use Rattle.rules.specs.declared.refusal.Refusal.the-variants.{Length}
+use Rattle.lines.specs.Digits.{byteAt, over}
+use Rattle.lines.specs.Line.{lineFeed}
+use Rattle.lines.specs.Read.{Said, end, numbers}
+use Rattle.lines.specs.Read as read
+use Rattle.lines.specs.Frame.{readFrame}
+use Rattle.lines.specs.Rule.{readRule}
+use Rattle.monitor.specs.declared.record.Record.{Record}
+use Rattle.monitor.specs.Start.{Beginning, startOf}
+use Rattle.text.specs.declared.state.Part.{Part}
+use Rattle.text.specs.declared.state.Part.the-variants.{Rules, Frames, Over}
+use Rattle.text.specs.declared.state.Stage.{Stage}
+use Rattle.text.specs.declared.turn.Told.{Told}
+use Rattle.text.specs.Replies.{needLine, refusalLine, refusedLine, longestReply, Wrote}
+use Rattle.text.specs.Transcript.{Running, frameReply, frameLeaves}
+
+-- What there is between two lines: the stage, and what is lent.
+pub record Desk : Type 0 where
+  pub stage : Stage
+  pub table : List ℕ
+  pub store : List ℕ
+
+-- What a line leaves, and what is written.
+pub record Turn : Type 0 where
+  pub left : Desk
+  pub text : List ℕ
+
+-- The rows read: the first numbers of the table.
+abbrev pub rowsRead : Desk → List ℕ
+rowsRead d = take (d .stage .rows * rowNumbers) (d .table)
+
+-- The stage of so many rows fits the table that is lent, and the longest line fits the output at a place.
+pub record Room (stage : Stage) (table out : List ℕ) (place : ℕ) : Type 0 where
+  pub rows : stage .rows ≤ rowLimit
+  pub numbers : rowLimit * rowNumbers ≤ length table
+  pub output : place + longestReply ≤ length out
+
+abbrev pub desk : Stage → List ℕ → List ℕ → Desk
+desk stage table store = record { stage = stage; table = table; store = store }
+
+abbrev pub runningAt : Desk → Running
+runningAt d = record { table = rowsRead d; found = d .stage .found; store = d .store }
+
+abbrev pub staged : Part → ℕ → Record → Stage
+staged part rows found = record { part = part; rows = rows; found = found }
+
+-- "After any refusal up to or at the empty line nothing more is written."
+abbrev pub refusing : Desk → List ℕ → Turn
+refusing d text =
+    record { left = record { stage = staged Over (d .stage .rows) (d .stage .found); table = d .table; store = d .store }; text = text }
+
+-- A good rule line's numbers follow the rows read; "a bad rule line is EE08 or EE09 with its line counted from 00".
+abbrev pub ruleTurn : Desk → Said → Turn
+ruleTurn d end = record { left = d; text = [] }
+ruleTurn d (numbers given) =
+    record {
+      left =
+          record {
+            stage = staged Rules (d .stage .rows + 1) (d .stage .found);
+            table = over (d .table) (d .stage .rows * rowNumbers) given;
+            store = d .store;
+          };
+      text = [];
+    }
+ruleTurn d (read.refusal fault) = refusing d (refusalLine (fault .number) (d .stage .rows))
+
+-- "The table is checked at the empty line; a need over the store gives EE0400 in place of the need."
+abbrev pub startPart : Option Refused → Part
+startPart none = Frames
+startPart (some fault) = Over
+
+abbrev pub startText : ℕ → Option Refused → List ℕ
+startText need none = needLine need
+startText need (some fault) = refusedLine fault
+
+-- The need that a check of the table says.
+abbrev pub needSaid : table.Said → ℕ
+needSaid (table.passed rows need) = need
+needSaid (table.refusedBy fault) = 0
+
+abbrev pub startTurn : Desk → Beginning → Turn
+startTurn d start =
+    record {
+      left = record { stage = staged (startPart (start .refusal)) (d .stage .rows) (start .given); table = d .table; store = start .store };
+      text = startText (needOf (rowsRead d)) (start .refusal);
+    }
+
+-- "a 65th line before the empty one EE0100, whatever it holds".
+unfoldable pub beforeFrames : Desk → List ℕ → Turn
+beforeFrames d line =
+    cond (eqb (byteAt line 0) lineFeed) (startTurn d (startOf (rowsRead d) (d .store)))
+    (cond (leb rowLimit (d .stage .rows)) (refusing d (refusalLine (numberOf Length) 0)) (ruleTurn d (readRule line 0 .said)))
+
+abbrev pub frameTurn : Desk → Said → Turn
+frameTurn d said =
+    record {
+      left =
+          record {
+            stage = staged Frames (d .stage .rows) (frameLeaves (runningAt d) said .found);
+            table = d .table;
+            store = frameLeaves (runningAt d) said .store;
+          };
+      text = frameReply (runningAt d) said;
+    }
+
+abbrev pub turnIn : Part → Desk → List ℕ → Turn
+turnIn Rules d line = beforeFrames d line
+turnIn Frames d line = frameTurn d (readFrame line 0 .said)
+turnIn Over d line = record { left = d; text = [] }
+
+abbrev pub turnOf : Desk → List ℕ → Turn
+turnOf d line = turnIn (d .stage .part) d line
+
+-- A turn as the code has it: the stage is handed back, what is lent is left, and the text is written at a place of the output.
+pub record Turned (turn : Turn) (out : List ℕ) (place : ℕ) (told : Told) (table store after : List ℕ) : Type 0 where
+  pub left : desk (told .stage) table store ≡ turn .left
+  pub wrote : Wrote out place (turn .text) (told .place) after

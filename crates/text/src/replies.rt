@@ -1,0 +1,65 @@
+// The lines that the program writes (document 01, "The program's text"), each at a place of the lent output. Whoever calls sees to the room.
+
+ghost use mathlib.Core.Path.{_≡_};
+ghost use Prim.Native.Nat.{_+_, _≤_};
+ghost use lib.ListN.{length};
+ghost use Rattle.rules.specs.Refusals.{refused};
+ghost use Rattle.text.specs.Replies.{longestReply, replyLine, needLine, verdictLine, refusalLine, refusedLine, Wrote};
+use lines::digits::write_digits;
+use rules::refusal::Refusal;
+
+// No line that is written is longer: "12 digits of time and 00 or 01", and the line feed.
+pub const LONGEST_REPLY: usize = 15;
+
+// "need in 8 digits".
+pub(crate) fn write_need(out: &mut [u8], place: usize, need: u64) -> usize
+    requires { ⌜ place + longestReply ≤ length (now out) ⌝ }
+    ensures { λ r. ⌜ Wrote (now (out .entry)) place (needLine need) r (now (out .exit)) ⌝ }
+{
+    write_reply(out, place, 0, 0, 8, need)
+}
+
+// "12 digits of time and 00 or 01".
+pub(crate) fn write_verdict(out: &mut [u8], place: usize, time: u64, holds: bool) -> usize
+    requires { ⌜ place + longestReply ≤ length (now out) ⌝ }
+    ensures { λ r. ⌜ Wrote (now (out .entry)) place (verdictLine time holds) r (now (out .exit)) ⌝ }
+{
+    if holds {
+        return write_reply(out, place, 12, time, 2, 1);
+    }
+    write_reply(out, place, 12, time, 2, 0)
+}
+
+// A refusal with the row that it gives, or 00.
+pub(crate) fn write_refused(out: &mut [u8], place: usize, fault: Refusal) -> usize
+    requires { ⌜ place + longestReply ≤ length (now out) ⌝ }
+    ensures { λ r. ⌜ Wrote (now (out .entry)) place (refusedLine (refused fault)) r (now (out .exit)) ⌝ }
+{
+    write_refusal(
+        out,
+        place,
+        rules::refusal::number(fault) as u64,
+        rules::refusal::row(fault) as u64,
+    )
+}
+
+// "EE, number 2 digits, row or 00".
+pub(crate) fn write_refusal(out: &mut [u8], place: usize, number: u64, row: u64) -> usize
+    requires { ⌜ place + longestReply ≤ length (now out) ⌝ }
+    ensures { λ r. ⌜ Wrote (now (out .entry)) place (refusalLine number row) r (now (out .exit)) ⌝ }
+{
+    write_digits(out, place, 2, 0xEE);
+    write_reply(out, place + 2, 2, number, 2, row)
+}
+
+// A line of two numbers, each in so many digits. The place after it.
+fn write_reply(out: &mut [u8], place: usize, n: usize, first: u64, m: usize, second: u64) -> usize
+    requires { ⌜ place + (n + m + 1) ≤ length (now out) ⌝ }
+    ensures { λ r. ⌜ Wrote (now (out .entry)) place (replyLine n first m second) r (now (out .exit)) ⌝ }
+{
+    write_digits(out, place, n, first);
+    write_digits(out, place + n, m, second);
+    let end = place + n + m;
+    out[end] = b'\n';
+    end + 1
+}
