@@ -22,6 +22,16 @@ pub fn run(table: &[u32], store: &mut [u64], times: &[u64], masks: &[u32]) -> Re
     kept
 }
 
+// The same with a frame of each counter.
+pub fn run_frames(table: &[u32], store: &mut [u64], counters: &[u16], masks: &[u32]) {
+    let mut kept = begin(table, store);
+    let mut i = 0;
+    while i < counters.len() {
+        kept = counted(table, store, kept, counters[i], number_at(masks, i));
+        i += 1;
+    }
+}
+
 pub fn begin(table: &[u32], store: &mut [u64]) -> Record {
     say(b"start -> ");
     let started = start::start(table, store);

@@ -5,6 +5,7 @@ use calls::at;
 use calls::begin;
 use calls::counted;
 use calls::run;
+use calls::run_frames;
 use calls::time_alone;
 use monitor::record::Record;
 use print::heading;
@@ -13,10 +14,16 @@ use rules::limits::ROW_NUMBERS;
 use tables::HEARTBEAT;
 use tables::P;
 use tables::Q;
+use tables::put_rows;
 
 mod calls;
 mod print;
 mod tables;
+
+// The last time that is taken, and the next.
+const LIMIT: u64 = 281_474_976_710_655;
+
+const OVER_LIMIT: u64 = 281_474_976_710_656;
 
 // The numbers of 64 rows, and of 65.
 const MOST: usize = 320;
@@ -38,7 +45,9 @@ fn main() {
     rows();
     short_store();
     refused_starts();
-    refused_events();
+    refused_tables();
+    refused_times();
+    refused_first();
     refused_start_kept();
     never_reached();
 }
@@ -46,24 +55,20 @@ fn main() {
 // Time is the index k of the source's tables. A word past the need holds 9.
 fn table_3() {
     heading(b"source 001, Table 3: once [1,2] of once [1,2] of (p or q)\n");
+    let mut numbers = [0; 30];
+    let table: &mut [u32] = &mut numbers;
+    put_rows(&tables::ONCE_ONCE, table);
     let mut store = [9; 5];
-    run(
-        &tables::ONCE_ONCE,
-        &mut store,
-        &[1, 2, 3, 4, 5, 6],
-        &[P, 0, 0, 0, Q, 0],
-    );
+    run(table, &mut store, &[1, 2, 3, 4, 5, 6], &[P, 0, 0, 0, Q, 0]);
 }
 
 fn table_4() {
     heading(b"source 001, Table 4: always [1,2] p\n");
+    let mut numbers = [0; 25];
+    let table: &mut [u32] = &mut numbers;
+    put_rows(&tables::ALWAYS, table);
     let mut store = [9; 3];
-    run(
-        &tables::ALWAYS,
-        &mut store,
-        &[1, 2, 3, 4, 5, 6],
-        &[0, 0, P, P, P, 0],
-    );
+    run(table, &mut store, &[1, 2, 3, 4, 5, 6], &[0, 0, P, P, P, 0]);
 }
 
 fn table_5() {
@@ -86,29 +91,25 @@ fn two_spans() {
 // A 200 metre race: the touch 65,546 ms after another is not 10 ms old.
 fn bounce() {
     heading(b"the bounce rule over a race of 200 metres\n");
-    let mut space = [9; 5];
-    let store: &mut [u64] = &mut space;
-    let kept = begin(&tables::BOUNCE, store);
-    let kept = counted(&tables::BOUNCE, store, kept, 0x03E8, P);
-    let kept = counted(&tables::BOUNCE, store, kept, 0x03EC, P);
-    let kept = counted(&tables::BOUNCE, store, kept, 0x03EC, P);
-    let kept = counted(&tables::BOUNCE, store, kept, 0x03FB, P);
-    let kept = counted(&tables::BOUNCE, store, kept, 0x03FD, P);
-    let kept = counted(&tables::BOUNCE, store, kept, 0x7918, HEARTBEAT);
-    let kept = counted(&tables::BOUNCE, store, kept, 0xEE48, HEARTBEAT);
-    let kept = counted(&tables::BOUNCE, store, kept, 0x03F2, P);
-    counted(&tables::BOUNCE, store, kept, 0x03FC, P);
+    let mut numbers = [0; 40];
+    let table: &mut [u32] = &mut numbers;
+    put_rows(&tables::BOUNCE, table);
+    let mut store = [9; 5];
+    run_frames(
+        table,
+        &mut store,
+        &[1000, 1004, 1004, 1019, 1021, 31000, 61000, 1010, 1020],
+        &[P, P, P, P, P, HEARTBEAT, HEARTBEAT, P, P],
+    );
 }
 
 fn long_gap() {
     heading(b"previous [0, no end] p and not previous [0,0] p, over a gap of 4,294,967,296\n");
+    let mut numbers = [0; 25];
+    let table: &mut [u32] = &mut numbers;
+    put_rows(&tables::PREVIOUS, table);
     let mut store = [9; 1];
-    run(
-        &tables::PREVIOUS,
-        &mut store,
-        &[0, 4294967296, 4294967296],
-        &[P, P, 0],
-    );
+    run(table, &mut store, &[0, 4294967296, 4294967296], &[P, P, 0]);
 }
 
 fn no_end() {
@@ -126,9 +127,12 @@ fn no_end() {
 
 fn between_events() {
     heading(b"x since [0,100] q, x true at events with p only and never between\n");
+    let mut numbers = [0; 25];
+    let table: &mut [u32] = &mut numbers;
+    put_rows(&tables::AT_EVENTS, table);
     let mut store = [9; 5];
     run(
-        &tables::AT_EVENTS,
+        table,
         &mut store,
         &[0, 40, 100, 101, 150, 160, 170],
         &[P + Q, P, P, P, Q, 0, P],
@@ -137,12 +141,8 @@ fn between_events() {
 
 fn step_back() {
     heading(b"once [0,65535] p, the counter steps back by 1\n");
-    let mut space = [9; 3];
-    let store: &mut [u64] = &mut space;
-    let kept = begin(&tables::ONCE_TURN, store);
-    let kept = counted(&tables::ONCE_TURN, store, kept, 100, P);
-    let kept = counted(&tables::ONCE_TURN, store, kept, 99, 0);
-    counted(&tables::ONCE_TURN, store, kept, 100, 0);
+    let mut store = [9; 3];
+    run_frames(&tables::ONCE_TURN, &mut store, &[100, 99, 100], &[P, 0, 0]);
     time_alone(100, 99);
     time_alone(65530, 4);
     time_alone(65540, 4);
@@ -152,12 +152,12 @@ fn time_limit() {
     heading(b"the limit of time\n");
     let mut space = [9; 3];
     let store: &mut [u64] = &mut space;
-    let kept = run(&tables::ONCE_TURN, store, &[281474976710655], &[P]);
-    let kept = at(&tables::ONCE_TURN, store, kept, 281474976710656, 0);
+    let kept = run(&tables::ONCE_TURN, store, &[LIMIT], &[P]);
+    let kept = at(&tables::ONCE_TURN, store, kept, OVER_LIMIT, 0);
     let kept = counted(&tables::ONCE_TURN, store, kept, 0, 0);
     counted(&tables::ONCE_TURN, store, kept, 65535, 0);
-    time_alone(281474976710655, 0);
-    time_alone(281474976710656, 0);
+    time_alone(LIMIT, 0);
+    time_alone(OVER_LIMIT, 0);
 }
 
 fn limits() {
@@ -221,73 +221,68 @@ fn refused_starts() {
     begin(&tables::SIX_WORDS, store);
 }
 
-// Refusals 1 to 4, then 7, 6 and 5; then two are due, and the one that is tried first is given. The last event is as if none had been tried.
-fn refused_events() {
-    heading(b"events that are refused, after q at 1 and both at 4, by p since [2,3] q\n");
+// Refusals 1 to 4. The last event of each of these three is as if nothing had been tried before it.
+fn refused_tables() {
+    heading(b"refused for the table or the store, by p since [2,3] q\n");
     let mut space = [9; 5];
     let store: &mut [u64] = &mut space;
-    let kept = run(&tables::SINCE, store, &[1, 4], &[Q, P + Q]);
-    print::memory(kept, store);
+    let kept = with_two_spans(store);
     tried(b"a table of 14 numbers\n", &tables::CUT, store, kept, 5);
     tried(b"a row of kind 7\n", &tables::KIND_7, store, kept, 5);
     tried(b"a row with a over b\n", &tables::A_OVER_B, store, kept, 5);
     tried(
-        b"a table that needs 6 words, on 5\n",
+        b"6 words needed, 5 there\n",
         &tables::SIX_WORDS,
         store,
         kept,
         5,
     );
-    let late = at_time(kept, 5);
+    tried(b"nothing wrong\n", &tables::SINCE, store, kept, 5);
+}
+
+// Refusals 7, 6 and 5.
+fn refused_times() {
+    heading(b"refused for the record or the time, by p since [2,3] q\n");
+    let mut space = [9; 5];
+    let store: &mut [u64] = &mut space;
+    let kept = with_two_spans(store);
+    let unsound = at_time(kept, 5);
     tried(
-        b"a record of time 5, with a span from 4\n",
+        b"a span before the time\n",
         &tables::SINCE,
         store,
-        late,
+        unsound,
         5,
     );
+    tried(b"over the limit\n", &tables::SINCE, store, kept, OVER_LIMIT);
+    tried(b"below the last time\n", &tables::SINCE, store, kept, 3);
+    tried(b"nothing wrong\n", &tables::SINCE, store, kept, 5);
+}
+
+// Two refusals are due, and the one that is tried first is given: 4 before 7, 7 before 6, 7 before 5.
+fn refused_first() {
+    heading(b"refused for two reasons, by p since [2,3] q\n");
+    let mut space = [9; 5];
+    let store: &mut [u64] = &mut space;
+    let kept = with_two_spans(store);
+    let unsound = at_time(kept, 5);
+    tried(b"store and record\n", &tables::SIX_WORDS, store, unsound, 5);
     tried(
-        b"a time over the limit\n",
+        b"record and limit\n",
         &tables::SINCE,
         store,
-        kept,
-        281474976710656,
+        unsound,
+        OVER_LIMIT,
     );
-    tried(
-        b"a time below the last event's\n",
-        &tables::SINCE,
-        store,
-        kept,
-        3,
-    );
-    tried(
-        b"the record of time 5, and too few words\n",
-        &tables::SIX_WORDS,
-        store,
-        late,
-        5,
-    );
-    tried(
-        b"the record of time 5, and a time over the limit\n",
-        &tables::SINCE,
-        store,
-        late,
-        281474976710656,
-    );
-    tried(
-        b"the record of time 5, and a time below it\n",
-        &tables::SINCE,
-        store,
-        late,
-        3,
-    );
-    tried(
-        b"an event after all these\n",
-        &tables::SINCE,
-        store,
-        kept,
-        5,
-    );
+    tried(b"record and last time\n", &tables::SINCE, store, unsound, 3);
+    tried(b"nothing wrong\n", &tables::SINCE, store, kept, 5);
+}
+
+// q at 1, and p and q at 4.
+fn with_two_spans(store: &mut [u64]) -> Record {
+    let kept = run(&tables::SINCE, store, &[1, 4], &[Q, P + Q]);
+    print::memory(kept, store);
+    kept
 }
 
 // An event with p, under a heading that says what is tried.
@@ -316,6 +311,9 @@ fn never_reached() {
     heading(
         b"(p since [2,3] q), or it was true at the previous event, from a record that is sound but never reached\n",
     );
+    let mut numbers = [0; 25];
+    let table: &mut [u32] = &mut numbers;
+    put_rows(&tables::SINCE_OR_BEFORE, table);
     let mut space = [12, 13, 0, 0, 9];
     let store: &mut [u64] = &mut space;
     let mut truths = [false; ROW_LIMIT];
@@ -330,8 +328,8 @@ fn never_reached() {
         counts,
     };
     print::memory(kept, store);
-    let kept = at(&tables::SINCE_OR_BEFORE, store, kept, 11, P);
-    let kept = at(&tables::SINCE_OR_BEFORE, store, kept, 13, P + Q);
-    let kept = at(&tables::SINCE_OR_BEFORE, store, kept, 14, P);
-    at(&tables::SINCE_OR_BEFORE, store, kept, 15, Q);
+    let kept = at(table, store, kept, 11, P);
+    let kept = at(table, store, kept, 13, P + Q);
+    let kept = at(table, store, kept, 14, P);
+    at(table, store, kept, 15, Q);
 }

@@ -7,4 +7,6 @@ pub mod AgreeLaws
 pub mod HeldLaws
 pub mod OwedLaws
 pub mod Cutting
+pub mod Meaning
+pub mod Outcomes
 pub mod WholeCase

@@ -7,3 +7,4 @@ pub mod Held
 pub mod Turn
 pub mod Feed
 pub mod Cutting
+pub mod Meaning

@@ -1,0 +1,70 @@
+-- What the frames' replies mean: each 00 or 01 that is written is what the formula judged says over the kept events. The calls are the frames of the
+-- good lines so far, the oldest first; which of them are kept goes by their times alone.
+use mathlib.Core.Bool.{Bool}
+use mathlib.Core.List.{List, [], _∷_, _++_}
+use mathlib.Core.Logic.{_↔_}
+use mathlib.Core.Path.{_≡_}
+use Prim.Native.Nat.{ℕ, _<_}
+use lib.Dec.{T}
+use Rattle.meaning.specs.Formula.{Holds}
+use Rattle.rules.specs.Limits.{rowLimit}
+use Rattle.rules.specs.Refusals.{refused}
+use Rattle.rules.specs.Rows.{rowsOf}
+use Rattle.rules.specs.Stretches.{needOf}
+use Rattle.rules.specs.declared.refusal.Refusal.the-variants.{Late}
+use Rattle.lines.specs.Digits.{byteAt}
+use Rattle.lines.specs.Line.{lineFeed}
+use Rattle.lines.specs.Read.{Said, end, numbers, refusal}
+use Rattle.lines.specs.Frame.{readFrame}
+use Rattle.lines.specs.Rule.{readRule}
+use Rattle.monitor.specs.Record.{timeLimit}
+use Rattle.monitor.specs.Step.{Call}
+use Rattle.promises.specs.Stream.{Starts, callTime, Keeps, clock, longer}
+use Rattle.promises.specs.Verdicts.{judgedFormula}
+use Rattle.text.specs.Replies.{needLine, verdictLine, refusedLine}
+use Rattle.text.specs.Lines.{linesOf}
+use Rattle.text.specs.Transcript.{emptyStore, frameOf, transcript}
+
+-- A good line's reply: the frame's time and the verdict where the frame is kept; 6 where its time is over the limit.
+pub record FrameMeant (table : List ℕ) (calls : List Call) (c : Call) (reply : List ℕ) : Type 0 where
+  pub kept : Keeps (clock calls) c
+      → (holds : Bool) × (reply ≡ verdictLine (callTime (clock calls) c) holds) × (T holds ↔ Holds (judgedFormula table) (longer calls c))
+  pub late : timeLimit < callTime (clock calls) c → reply ≡ refusedLine (refused Late)
+
+-- The reply to a line, by what is read of it. A line that is refused is no call.
+abbrev pub LineMeant : List ℕ → List Call → Said → List ℕ → Type 0
+LineMeant table calls end reply = reply ≡ []
+LineMeant table calls (numbers given) reply = FrameMeant table calls (frameOf given) reply
+LineMeant table calls (refusal fault) reply = reply ≡ refusedLine fault
+
+abbrev pub callsAfter : List Call → Said → List Call
+callsAfter calls end = calls
+callsAfter calls (numbers given) = calls ++ (frameOf given ∷ [])
+callsAfter calls (refusal fault) = calls
+
+-- The output for the frames' lines is their replies, one after the other, each as it is meant.
+unfoldable pub Meant : List ℕ → List Call → List (List ℕ) → List ℕ → Type 0
+Meant table calls [] output = output ≡ []
+Meant table calls (line ∷ lines) output =
+    (reply : List ℕ)
+    × (rest : List ℕ)
+    × (output ≡ reply ++ rest)
+    × LineMeant table calls (readFrame line 0 .said) reply
+    × Meant table (callsAfter calls (readFrame line 0 .said)) lines rest
+
+-- Good rule lines, at most 64, that bring a table to what it is at the empty line, and the lines after that one.
+pub data RulesThen : List ℕ → List (List ℕ) → List ℕ → List (List ℕ) → Type 0 where
+  emptyLine : {table line : List ℕ} {lines : List (List ℕ)} → byteAt line 0 ≡ lineFeed → RulesThen table (line ∷ lines) table lines
+  ruleLine : {table line given whole : List ℕ} {lines rest : List (List ℕ)}
+      → ¬ (byteAt line 0 ≡ lineFeed)
+      → rowsOf table < rowLimit
+      → readRule line 0 .said ≡ numbers given
+      → RulesThen (table ++ given) lines whole rest
+      → RulesThen table (line ∷ lines) whole rest
+
+-- A text whose rules make a table that passes, with room in the program's store: the lines after the empty line are frames.
+abbrev pub TranscriptTellsTheMeaning : Type 0
+TranscriptTellsTheMeaning = (text table : List ℕ) (lines : List (List ℕ))
+    → RulesThen [] (linesOf text) table lines
+    → Starts table emptyStore
+    → (output : List ℕ) × (transcript text ≡ needLine (needOf table) ++ output) × Meant table [] lines output
