@@ -140,11 +140,14 @@ pub fn base(random: &mut Random) -> u64 {
 /// Spans that are sound at t, of at most the row's figure.
 fn sound_spans(random: &mut Random, interval: Interval, t: u64) -> Vec<(u64, u64)> {
     let mut spans = Vec::new();
-    let Some(b) = interval.b else {
-        if random.once_in(2) {
-            spans.push((random.between(t, t + interval.a), NO_LAST));
+    let b = match interval.b {
+        Some(b) => b,
+        None => {
+            if random.once_in(2) {
+                spans.push((random.between(t, t + interval.a), NO_LAST));
+            }
+            return spans;
         }
-        return spans;
     };
     let latest_first = t + interval.a;
     let mut lowest = t;

@@ -34,8 +34,9 @@ pub fn read_frame(text: &[u8], place: usize) -> Line {
     let rest = &text[place..];
     let after = rest.iter().position(|&byte| byte == b'\n').map_or(text.len(), |feed| place + feed + 1);
     let refused = |number| Line { what: 2, number, counter: 0, mask: 0, next: after as u64 };
-    let Some(bytes) = rest.get(..FRAME).and_then(frame_bytes) else {
-        return refused(8);
+    let bytes = match rest.get(..FRAME).and_then(frame_bytes) {
+        Some(bytes) => bytes,
+        None => return refused(8),
     };
     let sum = bytes[..6].iter().map(|&byte| byte as u32).sum::<u32>() % 256;
     if sum != bytes[6] as u32 {

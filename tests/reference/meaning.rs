@@ -53,7 +53,7 @@ impl History {
             Formula::Not(x) => !now.truths[x],
             Formula::And(x, y) => now.truths[x] && now.truths[y],
             Formula::Or(x, y) => now.truths[x] || now.truths[y],
-            Formula::Previous(x, interval) => before.last().is_some_and(|event| event.truths[x] && interval.has(now.time - event.time)),
+            Formula::Previous(x, interval) => before.last().map_or(false, |event| event.truths[x] && interval.has(now.time - event.time)),
             Formula::Since(x, y, interval) => self.reached(&self.starts(x, y), interval, now.time),
         }
     }

@@ -57,7 +57,7 @@ fn uses(kind: u32) -> (bool, bool, bool) {
 }
 
 fn row(numbers: &[u32], index: usize) -> Result<Formula, u32> {
-    let [kind, x, y, a, b] = numbers.try_into().unwrap();
+    let [kind, x, y, a, b]: [u32; NUMBERS] = numbers.try_into().unwrap();
     if kind > 6 {
         return Err(2);
     }

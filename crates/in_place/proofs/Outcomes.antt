@@ -1,0 +1,56 @@
+-- Any two outcomes that the contract of a public function allows are the same: the answer or the record given, the record where it stands, and every word and code that was lent.
+use mathlib.Core.List.{List}
+use mathlib.Core.Path.{_≡_, refl, sym, ap, _∙_}
+use Prim.Native.Nat.{ℕ}
+use Rattle.rules.proofs.Outcomes.{refusalOf, refusal-back}
+use Rattle.monitor.specs.declared.record.Record.{Record}
+use Rattle.monitor.specs.declared.answer.Answer.{Answer}
+use Rattle.monitor.specs.declared.answer.Answer.the-variants.{Verdict, Refused}
+use Rattle.monitor.specs.declared.answer.Judged.{Judged}
+use Rattle.monitor.specs.Step.{Setup, Reply, verdict, refusal, Outcome, said, stepOf, saidStep}
+use Rattle.in_place.specs.Call.{callOf, saidIn}
+use Rattle.in_place.specs.Code.{codeOf}
+use Rattle.in_place.specs.Run.{Ran, ran}
+use Rattle.in_place.specs.declared.call.Call.{Call}
+
+-- Two that equal the same.
+one-value : {A : Type 0} {x p q : A} → p ≡ x → q ≡ x → p ≡ q
+one-value p q = p ∙ sym q
+
+-- The answer that says so.
+abbrev answerOf : Reply → Answer
+answerOf (verdict holds) = Verdict holds
+answerOf (refusal fault) = Refused (refusalOf fault)
+
+answer-back : (a : Answer) → answerOf (said a) ≡ a
+answer-back (Verdict holds) = refl
+answer-back (Refused fault) = ap Refused (refusal-back fault)
+
+-- `in_place::kept::call_in`: the answer, the record and the store.
+pub one-call-in : (setup : Setup) (store : List ℕ) (found : Record) (call : Call) (p q : Answer) (kept kept′ : Record) (words words′ : List ℕ)
+    → saidIn p kept words ≡ stepOf setup store found (callOf call) → saidIn q kept′ words′ ≡ stepOf setup store found (callOf call)
+    → (p ≡ q) × (kept ≡ kept′) × (words ≡ words′)
+one-call-in setup store found call p q kept kept′ words words′ h h′ =
+    let same : saidIn p kept words ≡ saidIn q kept′ words′ = one-value h h′ in (
+      sym (answer-back p) ∙ ap (λ (o : Outcome). answerOf (o .reply)) same ∙ answer-back q,
+      ap (λ (o : Outcome). o .left) same,
+      ap (λ (o : Outcome). o .store) same,
+    )
+
+-- `in_place::call::judge`: the same, the record beside the answer.
+pub one-judge : (setup : Setup) (store : List ℕ) (found : Record) (call : Call) (p q : Judged) (words words′ : List ℕ)
+    → saidStep p words ≡ stepOf setup store found (callOf call) → saidStep q words′ ≡ stepOf setup store found (callOf call) → (p ≡ q) × (words ≡ words′)
+one-judge setup store found call p q words words′ h h′ =
+    let same = one-call-in setup store found call (p .answer) (q .answer) (p .record) (q .record) words words′ h h′ in
+    (λ i. record { answer = same .0 i; «record» = same .1 i }, same .2)
+
+-- `in_place::code::code`.
+pub one-code : (a : Answer) (p q : ℕ) → p ≡ codeOf (said a) → q ≡ codeOf (said a) → p ≡ q
+one-code a p q = one-value
+
+-- `in_place::run::run_events` and `run_frames`: the record, the store and the codes.
+pub one-run : (after : Ran) (left left′ : Record) (store store′ codes codes′ : List ℕ) → ran left store codes ≡ after → ran left′ store′ codes′ ≡ after
+    → (left ≡ left′) × (store ≡ store′) × (codes ≡ codes′)
+one-run after left left′ store store′ codes codes′ h h′ =
+    let same : ran left store codes ≡ ran left′ store′ codes′ = one-value h h′ in
+    (ap (λ (r : Ran). r .left) same, ap (λ (r : Ran). r .store) same, ap (λ (r : Ran). r .codes) same)

@@ -1,0 +1,29 @@
+-- `in_place::run::put_code` meets its contract; a place past the row's end sets nothing. Assumes nothing.
+use mathlib.Core.Path.{sym}
+use lib.Seq.{set-out}
+use borrow.Author.Needs.{needs}
+use Rattle.in_place.proofs.run.put_code.Statement.{statement}
+use Rattle.in_place.proofs.run.put_code.Tie as tie
+
+code-requires : tie.Need-code-requires
+code-requires c κs = search needs
+
+mul-answers : tie.Need-mul-answers
+mul-answers c = search needs
+
+slice-write-answers : tie.Need-slice-write-answers
+slice-write-answers c = search needs
+
+same-length : tie.Need-same-length
+same-length c = search needs
+
+returns : tie.Need-returns
+returns c = rw (c .code .ensures)
+
+returns-2 : tie.Need-returns-2
+returns-2 c = sym (set-out _ _ _ (c .if1 .left))
+
+pub put-code-spec : {M : Type 1} → statement M
+put-code-spec =
+    tie.close
+    (tie.spec code-requires mul-answers slice-write-answers same-length returns returns-2)

@@ -1,0 +1,118 @@
+#!/usr/bin/env bash
+# The archive as C and Rust link it: examples/board.c with every warning an error and with the address and undefined-behaviour sanitizers, and the
+# comparison with the two references of tests/reference/. The archive is for x86-64: on another processor the compilers are cross compilers and what
+# they make runs under the emulator that the Rattle kit has for its own programs. A Debian package that is missing is installed where that can be done.
+set -u
+cd "$(dirname "$0")/.." || exit 2
+work=$(mktemp -d) || exit 2
+trap 'rm -rf "$work"' EXIT
+failures=0
+target=x86_64-unknown-linux-gnu
+machine=$(uname -m)
+
+say() {
+    printf 'board.sh: %s\n' "$*" >&2
+}
+
+fail() {
+    say "$*"
+    failures=$((failures + 1))
+}
+
+# install PACKAGE..: from Debian's archive, as root.
+install() {
+    [ "$(id -u)" -eq 0 ] && command -v apt-get >/dev/null 2>&1 || return 1
+    say "installing $*"
+    case $* in *:amd64*) dpkg --add-architecture amd64 ;; esac
+    export DEBIAN_FRONTEND=noninteractive
+    apt-get install -y --no-install-recommends "$@" >"$work/log" 2>&1 ||
+        { apt-get update && apt-get install -y --no-install-recommends "$@"; } >"$work/log" 2>&1
+}
+
+# run PROGRAM: under the emulator where the machine is not x86-64.
+run() {
+    if [ "$machine" = x86_64 ]; then
+        "$@"
+    else
+        ASAN_OPTIONS=detect_leaks=0 "$tools/bin/qemu-x86_64" "$tools/lib/ld-linux-x86-64.so.2" --library-path "$tools/lib" "$@"
+    fi
+}
+
+# Which compilers there are, by which packages they come, and the emulator.
+tools=''
+gcc=gcc gcc_packages=(gcc libc6-dev) rust_packages=(rustc) libraries=() linker=()
+if [ "$machine" != x86_64 ]; then
+    tools=$(dirname "$(dirname "$(readlink -f "$(command -v rt)")")")/on/$machine/toolchain
+    if [ ! -x "$tools/bin/qemu-x86_64" ]; then
+        say "warning: NOT RUN: the archive is for x86-64, and the Rattle kit has no emulator of it for $machine"
+        exit 0
+    fi
+    gcc=x86_64-linux-gnu-gcc gcc_packages=(gcc-x86-64-linux-gnu libc6-dev-amd64-cross) rust_packages=(rustc libstd-rust-dev:amd64)
+    # The kit's C library is all that the emulator gives.
+    libraries=(-static-libasan -static-libubsan)
+    linker=(-C "linker=$gcc")
+fi
+
+there_is_gcc() {
+    command -v "$gcc" >/dev/null 2>&1
+}
+
+# A rustc that has the standard library for x86-64; its path is in `rust`.
+there_is_rust() {
+    local folder
+    for rust in $(type -ap rustc); do
+        folder=$("$rust" --print target-libdir --target "$target" 2>/dev/null)
+        compgen -G "$folder/libstd-*.rlib" >/dev/null && return 0
+    done
+    return 1
+}
+
+# needs TEST WHAT PACKAGE..: whether a compiler is there, or can be got; without it WHAT does not run, and the test says so.
+needs() {
+    local test=$1 what=$2
+    shift 2
+    "$test" && return 0
+    install "$@" && "$test" && return 0
+    say "warning: NOT RUN: $what; it needs the Debian packages $*, which are not here and cannot be installed"
+    return 1
+}
+
+# builds SANITIZERS SOURCE PROGRAM MORE..: C with every warning an error.
+builds() {
+    local sanitizers=$1 source=$2 program=$3
+    shift 3
+    "$gcc" -std=c11 -Wall -Wextra -Werror -g "-fsanitize=$sanitizers" -fno-sanitize-recover=all "${libraries[@]}" -Iinclude "$source" "$@" -o "$program"
+}
+
+rt staticlib board >"$work/log" 2>&1 || {
+    tail -n 15 "$work/log" >&2
+    fail "the archive cannot be built ('rt staticlib board')"
+    exit 1
+}
+
+if needs there_is_gcc examples/board.c "${gcc_packages[@]}"; then
+    sanitizers=address,undefined
+    printf 'int main(void) { return 0; }\n' >"$work/nothing.c"
+    if ! { builds "$sanitizers" "$work/nothing.c" "$work/nothing" && run "$work/nothing"; } >/dev/null 2>&1; then
+        sanitizers=undefined
+        say "warning: a program that does nothing does not run with the address sanitizer here, so examples/board.c runs without it"
+    fi
+    if builds "$sanitizers" examples/board.c "$work/board" target/staticlib/libboard.a; then
+        run "$work/board" >"$work/writes" || fail "examples/board.c ended with status $?"
+        difference=$(diff "$work/writes" examples/board.out) || fail "examples/board.c: what it writes (<) and examples/board.out (>) differ:
+$difference"
+    else
+        fail "examples/board.c is not compiled"
+    fi
+fi
+
+if needs there_is_rust "the comparison with the references" "${rust_packages[@]}"; then
+    if "$rust" --edition 2021 -O -D warnings --target "$target" "${linker[@]}" -L target/staticlib -l static=board tests/reference/main.rs -o "$work/compare"; then
+        run "$work/compare" || fail "the archive and the references differ"
+    else
+        fail "tests/reference is not compiled"
+    fi
+fi
+
+[ "$failures" -eq 0 ] && printf 'board.sh: the archive links and answers as it should\n'
+exit "$((failures > 0))"
