@@ -4,7 +4,7 @@ use mathlib.Core.Path.{_≡_, refl, sym}
 use Prim.Native.Nat.{ℕ, _+_, _-_, _^_, _≤_, _<_}
 use native.Mathlib.Omega.{arith}
 use lib.Dec.{leb, eqb}
-use borrow.Author.Tests.{le-leb, lt-leb, leb-true, leb-false, eq-eqb, ne-eqb}
+use borrow.Author.Tests.{le-leb, lt-leb, leb-true, leb-false}
 use Rattle.meaning.specs.Interval.{End, upTo, noEnd, noEndNumber, endOf, _+End_}
 use Rattle.monitor.specs.Layout.{mark, wordOf, endAt}
 use Rattle.monitor.specs.Record.{timeLimit}
@@ -38,10 +38,10 @@ pub reach-word : (time b : ℕ) → time ≤ timeLimit → b < 2 ^ 32 → wordOf
 reach-word time b early small = word-most (time +End endOf b) (reach-storable time b early small)
 
 -- As a word it is the mark where b has no end, otherwise a sum.
-pub marked : (time : ℕ) {b : ℕ} → b ≡ noEndNumber → mark ≡ wordOf (time +End endOf b)
+pub marked : (time b : ℕ) → eqb b noEndNumber ≡ true → mark ≡ wordOf (time +End endOf b)
 unfolding endOf
-marked time endless = rw (eq-eqb _ _ endless)
+marked time b endless = rw endless
 
-pub summed : (time : ℕ) {b number : ℕ} → (b ≡ noEndNumber → ⊥) → number ≡ b → time + number ≡ wordOf (time +End endOf b)
+pub summed : (time : ℕ) {b number : ℕ} → eqb b noEndNumber ≡ false → number ≡ b → time + number ≡ wordOf (time +End endOf b)
 unfolding endOf
-summed time ended same = rw (ne-eqb _ _ ended, same)
+summed time ended same = rw (ended, same)

@@ -1,4 +1,5 @@
-// The monitor.
+// The monitor: start, one event or frame with the record handed in and back, the time of a frame. Spans, soundness and the rows of an event are
+// private.
 
 pub mod answer;
 mod event;

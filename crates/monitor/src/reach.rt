@@ -5,7 +5,8 @@ use crate::words::past_by;
 use rules::limits;
 ghost use mathlib.Core.Path.{_≡_};
 ghost use Prim.Native.Nat.{_≤_};
-ghost use Rattle.meaning.specs.Interval.{endOf, _+End_};
+ghost use lib.Dec.{eqb};
+ghost use Rattle.meaning.specs.Interval.{noEndNumber, endOf, _+End_};
 ghost use Rattle.meaning.specs.Computed.{within?, notPast?};
 ghost use Rattle.meaning.specs.Sound.{lengthOf};
 ghost use Rattle.monitor.specs.Record.{timeLimit};
@@ -16,7 +17,7 @@ pub(crate) fn last_reached(time: u64, b: u32) -> u64
     requires { ⌜ time ≤ timeLimit ⌝ }
     ensures { λ r. ⌜ (r ≡ wordOf (time +End endOf b)) × (endAt r ≡ time +End endOf b) ⌝ }
 {
-    if b == limits::NO_END {
+    if has_no_end(b) {
         return NO_END;
     }
     time + wide(b)
@@ -26,7 +27,7 @@ pub(crate) fn last_reached(time: u64, b: u32) -> u64
 pub(crate) fn length_of(a: u32, b: u32) -> u64
     ensures { λ r. ⌜ r ≡ lengthOf a (endOf b) ⌝ }
 {
-    if b == limits::NO_END {
+    if has_no_end(b) {
         return 0;
     }
     if b < a {
@@ -48,7 +49,7 @@ pub(crate) fn within(a: u32, b: u32, former: u64, time: u64) -> bool
 fn not_past(b: u32, former: u64, time: u64) -> bool
     ensures { λ r. ⌜ r ≡ notPast? time (former +End endOf b) ⌝ }
 {
-    if b == limits::NO_END {
+    if has_no_end(b) {
         return true;
     }
     if time <= former {
@@ -57,6 +58,14 @@ fn not_past(b: u32, former: u64, time: u64) -> bool
     time - former <= wide(b)
 }
 
+// Whether b stands for no end.
+fn has_no_end(b: u32) -> bool
+    ensures { λ r. ⌜ r ≡ eqb b noEndNumber ⌝ }
+{
+    b == limits::NO_END
+}
+
+// A number of the table as a word.
 pub(crate) fn wide(number: u32) -> u64
     ensures { λ r. ⌜ r ≡ number ⌝ }
 {

@@ -1,13 +1,13 @@
 -- Every cutting of a text is the text: what the bytes taken so far write, and what is still owed for those to come, is the transcript.
-use mathlib.Core.Bool.{true, false, cond}
+use mathlib.Core.Bool.{false, cond}
 use mathlib.Core.List.{List, [], _∷_, _++_, append-assoc, append-nil}
 use mathlib.Core.Option.{Option, none, some}
 use mathlib.Core.Path.{_≡_, refl, sym, ap, _∙_}
 use Prim.Native.Nat.{ℕ, zero, suc, _+_, _-_, _*_, _≤_, _<_, min}
 use native.Mathlib.Omega.{arith}
-use borrow.Author.Tests.{leb-true, leb-false, le-leb, lt-leb, eqb-true, eqb-false, eq-eqb, ne-eqb, ltb-true, ltb-false, le-ltb}
+use borrow.Author.Tests.{le-leb, eqb-false, ne-eqb, le-ltb}
 use lib.Dec.{leb, ltb, eqb, lit<}
-use lib.ListN.{length, take, drop, length-append}
+use lib.ListN.{length, take, length-append}
 use lib.Seq.{getD-take, take-length}
 use native.Mathlib.Numerals.{one-add}
 use Rattle.rules.specs.Limits.{rowLimit, rowNumbers}
@@ -15,7 +15,7 @@ use Rattle.rules.specs.Refusals.{Refused, numberOf, firstOf}
 use Rattle.rules.specs.Stretches.{needOf}
 use Rattle.rules.specs.declared.refusal.Refusal.the-variants.{Length}
 use Rattle.lines.specs.Digits.{byteAt}
-use Rattle.lines.specs.Line.{lineFeed, digitsOf}
+use Rattle.lines.specs.Line.{lineFeed}
 use Rattle.lines.specs.Read.{Said, end, numbers, refusal}
 use Rattle.lines.specs.Frame.{frameWidths, readFrame}
 use Rattle.lines.specs.Rule.{ruleWidths, readRule}
@@ -26,13 +26,13 @@ use Rattle.monitor.specs.Step.{Reply}
 use Rattle.monitor.specs.Step as step
 use Rattle.text.specs.declared.state.Part.{Part}
 use Rattle.text.specs.declared.state.Part.the-variants.{Rules, Frames, Over}
-use Rattle.text.specs.Lines.{linesFrom, cutOff}
+use Rattle.text.specs.Lines.{linesFrom}
 use Rattle.text.specs.Replies.{longestReply, replyLine, verdictNumber, refusalLine}
 use Rattle.text.specs.Transcript.{emptyStore, Running, judged, frameOf, replyOf, frameReply, framesFrom, rulesFrom, transcript}
 use Rattle.text.specs.Held.{lineLimit, heldLine, holding}
 use Rattle.text.specs.Turn.{Desk, rowsRead, runningAt, startText, ruleTurn, beforeFrames, turnIn, turnOf}
 use Rattle.text.specs.Feed.{Memory, byteLeaves, byteText, feed, stepOf, memoryOf, fresh, endText, endOf}
-use Rattle.text.specs.Cutting.{Lent, Course, course, stateIn, EveryCutting, joined, Roomy, EveryByteTaken, SomeByteTaken}
+use Rattle.text.specs.Cutting.{Lent, course, stateIn, EveryCutting, joined, Roomy, EveryByteTaken, SomeByteTaken}
 use Rattle.text.proofs.WroteLaws.{length-reply}
 use Rattle.text.proofs.AgreeLaws.{said-held, said-cut}
 use Rattle.text.proofs.HeldLaws.{Holds, holds-line, holds-none, holds-more}

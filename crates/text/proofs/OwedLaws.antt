@@ -1,18 +1,16 @@
 -- What is still to be written for the lines to come, from what there is between two lines; and that a line writes its share of it.
-use mathlib.Core.Bool.{true, false, cond}
-use mathlib.Core.List.{List, [], _∷_, _++_, append-assoc, append-nil}
+use mathlib.Core.List.{List, [], _∷_, _++_, append-nil}
 use mathlib.Core.Option.{Option, none, some}
-use mathlib.Core.Path.{_≡_, refl, sym, ap, _∙_}
-use Prim.Native.Nat.{ℕ, suc, _+_, _-_, _*_, _/_, _≤_, _<_}
+use mathlib.Core.Path.{_≡_, refl, sym}
+use Prim.Native.Nat.{ℕ, _+_, _-_, _*_, _≤_, _<_}
 use native.Mathlib.Omega.{arith}
-use borrow.Author.Tests.{leb-true, leb-false, le-leb, lt-leb, eq-eqb, ne-eqb}
+use borrow.Author.Tests.{leb-false}
 use lib.Dec.{leb, eqb}
 use lib.ListN.{length, take}
 use lib.Seq.{length-take-le}
 use Rattle.rules.specs.Limits.{rowLimit, rowNumbers}
 use Rattle.rules.specs.Refusals.{Refused}
 use Rattle.rules.specs.Rows.{rowsOf}
-use Rattle.rules.specs.Stretches.{needOf}
 use Rattle.lines.specs.Digits.{byteAt, over}
 use Rattle.lines.specs.Line.{lineFeed}
 use Rattle.lines.specs.Read.{Said, end, numbers, refusal, numbersAt}
@@ -22,8 +20,8 @@ use Rattle.lines.proofs.Tests.{by-test}
 use Rattle.monitor.specs.Start.{Beginning, startOf}
 use Rattle.text.specs.declared.state.Part.{Part}
 use Rattle.text.specs.declared.state.Part.the-variants.{Rules, Frames, Over}
-use Rattle.text.specs.Transcript.{emptyStore, Running, frameLeaves, framesFrom, begun, tableThen, ruleFault, withRule, unlessFault, rulesFrom}
-use Rattle.text.specs.Turn.{Desk, Turn, rowsRead, runningAt, startTurn, startPart, startText, ruleTurn, beforeFrames, frameTurn, turnIn, turnOf}
+use Rattle.text.specs.Transcript.{emptyStore, frameLeaves, framesFrom, begun, tableThen, ruleFault, withRule, unlessFault, rulesFrom}
+use Rattle.text.specs.Turn.{Desk, Turn, rowsRead, runningAt, startTurn, startPart, ruleTurn, beforeFrames, frameTurn, turnIn, turnOf}
 use Rattle.text.proofs.OverLaws.{take-over, length-over}
 use Rattle.text.proofs.TurnLaws.{turn-rows}
 use Rattle.text.proofs.AgreeLaws.{said-by}

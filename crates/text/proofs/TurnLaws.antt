@@ -1,9 +1,8 @@
 -- What a line brings, from what was read of it and what the monitor answered.
-use mathlib.Core.Bool.{Bool, true, false, cond}
 use mathlib.Core.List.{List, [], _∷_, append-assoc}
 use mathlib.Core.Option.{Option, none, some}
 use mathlib.Core.Path.{_≡_, refl, sym, ap, subst, _∙_}
-use Prim.Native.Nat.{ℕ, _+_, _*_, _≤_, _<_}
+use Prim.Native.Nat.{ℕ, _+_, _≤_, _<_}
 use native.Mathlib.Omega.{arith}
 use borrow.Author.Tests.{leb-false}
 use lib.Dec.{leb, eqb}
@@ -14,7 +13,7 @@ use Rattle.rules.specs.Limits.{rowLimit, rowNumbers}
 use Rattle.rules.specs.Refusals.{Refused, refused}
 use Rattle.rules.specs.Rows.{rowsOf}
 use Rattle.rules.specs.Stretches.{needOf}
-use Rattle.rules.specs.Table.{Said, passed, refusedBy, saidOf, lengthPasses, firstFault, checkOf}
+use Rattle.rules.specs.Table.{Said, saidOf, lengthPasses, firstFault, checkOf}
 use Rattle.rules.specs.declared.refusal.Refusal.{Refusal}
 use Rattle.rules.specs.declared.refusal.Refusal.the-variants.{Length}
 use Rattle.lines.specs.Digits.{byteAt, over}
@@ -22,22 +21,21 @@ use Rattle.lines.specs.Line.{lineFeed}
 use Rattle.lines.specs.Rule.{readRule}
 use Rattle.lines.specs.Read as read
 use Rattle.monitor.specs.Ready.{withRoom, readyOf}
-use Rattle.monitor.specs.Start.{begin, startOf, startRefusal, saidStart}
-use Rattle.monitor.specs.Step.{Outcome, said, saidStep, stepOf, frame}
+use Rattle.monitor.specs.Start.{begin, startOf, saidStart}
+use Rattle.monitor.specs.Step.{said, saidStep, frame}
 use Rattle.monitor.specs.Step as step
 use Rattle.monitor.specs.declared.answer.StartAnswer.{StartAnswer}
 use Rattle.monitor.specs.declared.answer.StartAnswer.the-variants as StartAnswer
 use Rattle.monitor.specs.declared.answer.Answer.the-variants as Answer
 use Rattle.monitor.specs.declared.answer.Started.{Started}
 use Rattle.monitor.specs.declared.answer.Judged.{Judged}
-use Rattle.text.specs.declared.state.Stage.{Stage}
 use Rattle.text.specs.declared.state.Part.{Part}
 use Rattle.text.specs.declared.state.Part.the-variants.{Rules, Frames, Over}
 use Rattle.text.specs.declared.turn.Told.{Told}
-use Rattle.text.specs.Replies.{needLine, verdictLine, refusedLine, Wrote}
+use Rattle.text.specs.Replies.{needLine, refusedLine, Wrote}
 use Rattle.text.specs.Transcript.{judged, replyOf}
-use Rattle.text.specs.Turn.{Desk, Turn, desk, rowsRead, runningAt, needSaid, staged, ruleTurn, startTurn, beforeFrames, frameTurn, turnIn, turnOf, Turned}
-use Rattle.lines.proofs.Tests.{by-test, clash}
+use Rattle.text.specs.Turn.{Desk, rowsRead, runningAt, needSaid, staged, ruleTurn, startTurn, beforeFrames, frameTurn, turnIn, turnOf, Turned}
+use Rattle.lines.proofs.Tests.{by-test}
 use Rattle.text.proofs.WroteLaws.{wrote-none}
 
 -- What was read is what was found.

@@ -7,7 +7,7 @@ use native.Mathlib.Omega.{arith}
 use borrow.Author.Tests.{le-leb}
 use lib.Dec.{leb}
 use lib.ListN.{length, set, length-append}
-use Rattle.lines.specs.Digits.{digits, over, Written}
+use Rattle.lines.specs.Digits.{digits, Written}
 use Rattle.lines.proofs.WriteLaws.{length-digits}
 use Rattle.text.specs.Replies.{Wrote, replyLine}
 use Rattle.text.proofs.OverLaws.{over-over, over-none, over-one, over-fits}

@@ -1,5 +1,5 @@
 -- A text as it arrives: what a byte brings, what a piece brings as far as the output's room allows, and what the text's end brings.
-use mathlib.Core.Bool.{Bool, true, false, cond, _&&_}
+use mathlib.Core.Bool.{Bool, cond, _&&_}
 use mathlib.Core.List.{List, [], _∷_, _++_}
 use mathlib.Core.Path.{_≡_}
 use Prim.Native.Nat.{ℕ, _+_, _-_, _*_}
@@ -8,7 +8,6 @@ use lib.ListN.{length, replicate}
 use Rattle.rules.specs.Limits.{rowLimit, rowNumbers}
 use Rattle.rules.specs.Refusals.{refused, numberOf}
 use Rattle.rules.specs.declared.refusal.Refusal.the-variants.{Length, Line}
-use Rattle.lines.specs.Digits.{over}
 use Rattle.lines.specs.Line.{lineFeed}
 use Rattle.monitor.specs.Record.{nothingSeen}
 use Rattle.text.specs.declared.state.Held.{Held}

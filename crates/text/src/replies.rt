@@ -1,6 +1,5 @@
 // The lines that the program writes (document 01, "The program's text"), each at a place of the lent output. Whoever calls sees to the room.
 
-ghost use mathlib.Core.Path.{_≡_};
 ghost use Prim.Native.Nat.{_+_, _≤_};
 ghost use lib.ListN.{length};
 ghost use Rattle.rules.specs.Refusals.{refused};

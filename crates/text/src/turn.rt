@@ -14,7 +14,6 @@ ghost use Rattle.lines.specs.Read.{numbers};
 ghost use Rattle.lines.specs.Frame.{readFrame};
 ghost use Rattle.lines.specs.Rule.{readRule};
 ghost use Rattle.monitor.specs.Start.{startOf};
-ghost use Rattle.text.specs.Replies.{longestReply};
 ghost use Rattle.text.specs.Turn.{desk, Room, needSaid, rowsRead, staged, beforeFrames, startTurn, ruleTurn, frameTurn, turnOf, Turned};
 ghost use Rattle.text.specs.declared.state.Part.the-variants as Part;
 use crate::replies::write_need;

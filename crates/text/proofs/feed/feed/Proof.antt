@@ -1,7 +1,6 @@
 -- `text::feed::feed` meets its contract. The loop over the bytes: what is left to do, after what was used and written, is all there was to do (`Going`).
 -- The measure is what is left of the piece. Assumes nothing.
-use mathlib.Core.Path.{_≡_, refl}
-use Prim.Native.Nat.{_+_, _-_, _*_, _≤_}
+use Prim.Native.Nat.{_-_, _*_, _≤_}
 use native.Mathlib.Omega.{arith}
 use borrow.Author.Needs.{needs}
 use lib.ListN.{length}

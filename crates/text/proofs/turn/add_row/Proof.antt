@@ -1,8 +1,6 @@
 use native.Mathlib.Omega.{arith}
-use Prim.Native.Nat.{ℕ, suc, _+_, _-_, _*_, _≤_, _<_}
-use mathlib.Core.Path.{_≡_, refl, sym, ap, _∙_}
-use mathlib.Core.List.{List, _++_, _∷_, []}
-use lib.ListN.{length, getD, take, drop, set, replicate, length-set, length-append, length-take, length-drop}
+use Prim.Native.Nat.{_-_}
+use lib.ListN.{length-set}
 use borrow.Author.Needs.{needs}
 use Rattle.text.proofs.TurnLaws.{row-stored}
 use Rattle.text.proofs.turn.add_row.Statement.{statement}

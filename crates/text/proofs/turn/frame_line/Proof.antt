@@ -1,5 +1,4 @@
 -- `text::turn::frame_line` meets its contract: what was read of the line decides. Assumes nothing.
-use mathlib.Core.Path.{refl, sym}
 use borrow.Author.Needs.{needs}
 use Rattle.lines.specs.Frame.{frameFound}
 use Rattle.text.proofs.WroteLaws.{wrote-none}

@@ -1,5 +1,4 @@
 -- `text::turn::rule_line` meets its contract: what was read of the line decides. Assumes nothing.
-use mathlib.Core.Path.{refl}
 use borrow.Author.Needs.{needs}
 use Rattle.lines.specs.Rule.{ruleFound}
 use Rattle.text.proofs.WroteLaws.{wrote-none}
