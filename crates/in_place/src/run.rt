@@ -29,7 +29,16 @@ pub fn run_events(
 {
     let no_counters: [u16; 0] = [];
     let count = least(times.len(), least(masks.len(), answers.len()));
-    run_calls(table, store, found, times, &no_counters, masks, answers, count)
+    run_calls(
+        table,
+        store,
+        found,
+        times,
+        &no_counters,
+        masks,
+        answers,
+        count,
+    )
 }
 
 // A frame for each counter and mask, as long as there is room for its answer's code. Gives the record left.
@@ -45,7 +54,16 @@ pub fn run_frames(
 {
     let no_times: [u64; 0] = [];
     let count = least(counters.len(), least(masks.len(), answers.len()));
-    run_calls(table, store, found, &no_times, counters, masks, answers, count)
+    run_calls(
+        table,
+        store,
+        found,
+        &no_times,
+        counters,
+        masks,
+        answers,
+        count,
+    )
 }
 
 // So many calls from the rows' start, the record in a local that is lent to each.
