@@ -95,7 +95,7 @@ part-told table store row {numbers} {from} {words} read place size =
     let e : from + words - from ≡ words = omega arith in
     rw (e, size, read, place)
 
-pub stretch-told :
+pub row-told :
     (table store : List ℕ) (found : Record) (row : ℕ) {numbers : Numbers} {from words : ℕ} {answer : Bool}
     → numbers ≡ numbersAt table row
     → from ≡ offset table row
@@ -105,7 +105,7 @@ pub stretch-told :
     (wordOf (found .time +End endOf (numbers .b))) (lengthOf (numbers .a) (endOf (numbers .b)))
     → answer ≡ soundRow? table store found row
 unfolding soundRow?
-stretch-told table store found row read place size told = rw (told, part-told table store row read place size, read)
+row-told table store found row read place size told = rw (told, part-told table store row read place size, read)
 
 -- Where a row's stretch ends, and that it does so within the store.
 pub offset-next : (table : List ℕ) (row : ℕ) {numbers : Numbers} {from words : ℕ} → numbers ≡ numbersAt table row → from ≡ offset table row

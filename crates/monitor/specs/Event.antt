@@ -1,5 +1,5 @@
 -- One event, rows rising, from what was found (document 01, "Spans, store and record": "One event at t, rows rising ..").
-use mathlib.Core.Bool.{Bool, true, false, not, _&&_, _||_}
+use mathlib.Core.Bool.{Bool, true, not, _&&_, _||_}
 use mathlib.Core.List.{List, [], _++_}
 use Prim.Native.Nat.{ℕ, zero, suc, _/_, _%_, _^_}
 use lib.Dec.{eqb}
@@ -7,7 +7,7 @@ use lib.ListN.{length, drop, set}
 use Rattle.meaning.specs.Interval.{endOf}
 use Rattle.meaning.specs.Computed.{within?}
 use Rattle.meaning.specs.Spans.{Span, reach, update}
-use Rattle.rules.specs.Kinds.{Plain, truth, bit, negation, both, either, previous, Rule, plain, stretch}
+use Rattle.rules.specs.Kinds.{truth, bit, negation, both, either, previous, Rule, plain, stretch}
 use Rattle.rules.specs.Rows.{rowsOf, numbersAt, ruleOf, named}
 use Rattle.rules.specs.Stretches.{width, offset}
 use Rattle.rules.specs.declared.numbers.Numbers.{Numbers}

@@ -1,12 +1,11 @@
 -- Refusals 1 to 4, with which start and every call begin (document 01, "Refusal numbers").
-use mathlib.Core.Bool.{Bool, true, false, cond}
+use mathlib.Core.Bool.{cond}
 use mathlib.Core.List.{List}
 use mathlib.Core.Option.{Option, none, some}
 use Prim.Native.Nat.{ℕ}
 use lib.Dec.{leb}
 use Rattle.rules.specs.Refusals.{Refused, refused}
 use Rattle.rules.specs.Table.{Said, passed, refusedBy, checkOf}
-use Rattle.rules.specs.declared.refusal.Refusal.{Refusal}
 use Rattle.rules.specs.declared.refusal.Refusal.the-variants.{Store}
 
 -- 4: "store shorter than the need", after the table's own refusals.

@@ -12,7 +12,7 @@ use Rattle.rules.specs.Rows.{rowsOf}
 use Rattle.rules.specs.Stretches.{offset}
 use Rattle.monitor.specs.Soundness.{every, soundRow?}
 use Rattle.monitor.proofs.ReadyLaws.{Ready, ready-none}
-use Rattle.monitor.proofs.SoundnessLaws.{every-not, every-more, stretch-told, offset-next, stretch-fits}
+use Rattle.monitor.proofs.SoundnessLaws.{every-not, every-more, row-told, offset-next, stretch-fits}
 use Rattle.monitor.proofs.soundness.sound_stretches.Statement.{statement}
 use Rattle.monitor.proofs.soundness.sound_stretches.Tie as tie
 
@@ -85,7 +85,7 @@ told : (c : tie.After-sound-stretch Inv-loop μ-loop)
     ≡ soundRow? (now (at-start (c .before .before .before) .args .table)) (now (at-start (c .before .before .before) .args .store))
     (at-start (c .before .before .before) .args .t4) (c .before .before .before .before .before .before .loop .row)
 told c =
-    stretch-told (now (at-start (c .before .before .before) .args .table)) (now (at-start (c .before .before .before) .args .store))
+    row-told (now (at-start (c .before .before .before) .args .table)) (now (at-start (c .before .before .before) .args .store))
     (at-start (c .before .before .before) .args .t4) (c .before .before .before .before .before .before .loop .row)
     (c .before .before .before .before .numbers-at .ensures)
     (c .before .before .before .before .before .before .loop .inv .1)

@@ -1,0 +1,230 @@
+// A stream judged by value on one store and in place on another, and what the two left compared.
+
+use crate::tables;
+use in_place::code::code;
+use in_place::run::run_events;
+use in_place::run::run_frames;
+use libc::STDOUT_FILENO;
+use monitor::answer::Answer;
+use monitor::record::Record;
+use monitor::start::start;
+use monitor::step;
+use rules::limits::ROW_LIMIT;
+use rules::numbers::number_at;
+
+// The places of a row of answers, more than any stream has calls; what a place holds that no code was written to.
+const PLACES: usize = 12;
+
+pub const UNWRITTEN: u32 = 4_294_967_295;
+
+pub fn heading(text: &[u8]) {
+    say(b"-- ");
+    say(text);
+}
+
+// Both stores started: the record, where the two agree.
+pub fn begin(table: &[u32], store: &mut [u64], other: &mut [u64]) -> Record {
+    let one = start(table, store);
+    let two = start(table, other);
+    let found = one.record;
+    if !same_records(found, two.record) {
+        say(b"DIFFERENT starts\n");
+    }
+    found
+}
+
+// A start, and then an event at each time.
+pub fn events(table: &[u32], store: &mut [u64], other: &mut [u64], times: &[u64], masks: &[u32]) {
+    let found = begin(table, store, other);
+    events_from(table, store, other, found, times, masks);
+}
+
+pub fn events_from(
+    table: &[u32],
+    store: &mut [u64],
+    other: &mut [u64],
+    found: Record,
+    times: &[u64],
+    masks: &[u32],
+) -> Record {
+    let mut codes = [UNWRITTEN; PLACES];
+    let mut places = [UNWRITTEN; PLACES];
+    let by_value = events_by_value(table, store, found, times, masks, &mut codes);
+    let in_place = run_events(table, other, found, times, masks, &mut places);
+    compared(store, other, by_value, in_place, &codes, &places);
+    by_value
+}
+
+// A start, and then a frame of each counter.
+pub fn frames(
+    table: &[u32],
+    store: &mut [u64],
+    other: &mut [u64],
+    counters: &[u16],
+    masks: &[u32],
+) {
+    let found = begin(table, store, other);
+    let mut codes = [UNWRITTEN; PLACES];
+    let mut places = [UNWRITTEN; PLACES];
+    let by_value = frames_by_value(table, store, found, counters, masks, &mut codes);
+    let in_place = run_frames(table, other, found, counters, masks, &mut places);
+    compared(store, other, by_value, in_place, &codes, &places);
+}
+
+// In place over rows of any lengths; by value at the first times, as many as are to be judged. The codes and places are given unwritten.
+pub fn rows_of(times: &[u64], masks: &[u32], first: &[u64], codes: &mut [u32], places: &mut [u32]) {
+    let table: &[u32] = &tables::SINCE;
+    let mut space = [9; 5];
+    let store: &mut [u64] = &mut space;
+    let mut other_space = [9; 5];
+    let other: &mut [u64] = &mut other_space;
+    let found = begin(table, store, other);
+    let by_value = events_by_value(table, store, found, first, masks, codes);
+    let in_place = run_events(table, other, found, times, masks, places);
+    compared(store, other, by_value, in_place, codes, places);
+}
+
+fn events_by_value(
+    table: &[u32],
+    store: &mut [u64],
+    found: Record,
+    times: &[u64],
+    masks: &[u32],
+    codes: &mut [u32],
+) -> Record {
+    let mut kept = found;
+    let mut i = 0;
+    while i < times.len() {
+        let judged = step::event(table, store, kept, times[i], number_at(masks, i));
+        kept = judged.record;
+        let answer = judged.answer;
+        put_code(codes, i, answer);
+        i += 1;
+    }
+    kept
+}
+
+fn frames_by_value(
+    table: &[u32],
+    store: &mut [u64],
+    found: Record,
+    counters: &[u16],
+    masks: &[u32],
+    codes: &mut [u32],
+) -> Record {
+    let mut kept = found;
+    let mut i = 0;
+    while i < counters.len() {
+        let judged = step::frame(table, store, kept, counters[i], number_at(masks, i));
+        kept = judged.record;
+        let answer = judged.answer;
+        put_code(codes, i, answer);
+        i += 1;
+    }
+    kept
+}
+
+fn put_code(codes: &mut [u32], i: usize, answer: Answer) {
+    if i < codes.len() {
+        codes[i] = code(answer);
+    }
+}
+
+// The codes that were written, and whether all that the two left is the same.
+fn compared(
+    store: &[u64],
+    other: &[u64],
+    by_value: Record,
+    in_place: Record,
+    codes: &[u32],
+    places: &[u32],
+) {
+    written(places);
+    if same_numbers(codes, places) {
+        if same_words(store, other) {
+            if same_records(by_value, in_place) {
+                say(b"same\n");
+                return;
+            }
+        }
+    }
+    say(b"DIFFERENT\n");
+}
+
+fn written(codes: &[u32]) {
+    let mut i = 0;
+    while i < codes.len() {
+        code_written(codes[i]);
+        i += 1;
+    }
+}
+
+fn code_written(code: u32) {
+    if code != UNWRITTEN {
+        io::print_hex(STDOUT_FILENO, code as u64, 6);
+        say(b" ");
+    }
+}
+
+fn same_records(a: Record, b: Record) -> bool {
+    if a.seen != b.seen {
+        return false;
+    }
+    if a.time != b.time {
+        return false;
+    }
+    if a.rows != b.rows {
+        return false;
+    }
+    let counts = a.counts;
+    let others = b.counts;
+    if !same_numbers(&counts, &others) {
+        return false;
+    }
+    let truths = a.truths;
+    let other_truths = b.truths;
+    same_truths(&truths, &other_truths)
+}
+
+fn same_truths(a: &[bool; ROW_LIMIT], b: &[bool; ROW_LIMIT]) -> bool {
+    let mut i = 0;
+    while i < ROW_LIMIT {
+        if a[i] != b[i] {
+            return false;
+        }
+        i += 1;
+    }
+    true
+}
+
+fn same_numbers(a: &[u32], b: &[u32]) -> bool {
+    if a.len() != b.len() {
+        return false;
+    }
+    let mut i = 0;
+    while i < a.len() {
+        if a[i] != b[i] {
+            return false;
+        }
+        i += 1;
+    }
+    true
+}
+
+fn same_words(a: &[u64], b: &[u64]) -> bool {
+    if a.len() != b.len() {
+        return false;
+    }
+    let mut i = 0;
+    while i < a.len() {
+        if a[i] != b[i] {
+            return false;
+        }
+        i += 1;
+    }
+    true
+}
+
+fn say(text: &[u8]) {
+    io::write_all(STDOUT_FILENO, text);
+}
