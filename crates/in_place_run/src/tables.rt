@@ -1,4 +1,5 @@
-// The rule tables that are run: those of three rows as their numbers, longer ones by rows. p is bit 0 and q is bit 1 of the mask.
+// The rule tables that are run: those of three rows as their numbers, longer ones by rows. p is bit 0 and q is bit 1 of the mask. They are those of
+// monitor_run once more, since one program cannot use another's files.
 
 use rules::limits::NO_END;
 use rules::limits::ROW_NUMBERS;

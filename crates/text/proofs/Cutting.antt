@@ -27,7 +27,7 @@ use Rattle.monitor.specs.Step as step
 use Rattle.text.specs.declared.state.Part.{Part}
 use Rattle.text.specs.declared.state.Part.the-variants.{Rules, Frames, Over}
 use Rattle.text.specs.Lines.{linesFrom}
-use Rattle.text.specs.Replies.{longestReply, replyLine, verdictNumber, refusalLine}
+use Rattle.text.specs.Replies.{needDigits, timeDigits, byteDigits, longestReply, replyLine, verdictNumber, refusalLine}
 use Rattle.text.specs.Transcript.{emptyStore, Running, judged, frameOf, replyOf, frameReply, framesFrom, rulesFrom, transcript}
 use Rattle.text.specs.Held.{lineLimit, heldLine, holding}
 use Rattle.text.specs.Turn.{Desk, rowsRead, runningAt, startText, ruleTurn, beforeFrames, turnIn, turnOf}
@@ -207,7 +207,7 @@ refusal-short : (number row : ℕ) → length (refusalLine number row) ≤ longe
 refusal-short number row = simp (length-append, length-digits, length-reply) (omega arith)
 
 start-short : (need : ℕ) (fault : Option Refused) → length (startText need fault) ≤ longestReply
-start-short need none = reply-short 0 0 8 need (omega arith)
+start-short need none = reply-short 0 0 needDigits need (omega arith)
 start-short need (some fault) = refusal-short (fault .number) (firstOf (fault .values))
 
 rule-short : (d : Desk) (said : Said) → length (ruleTurn d said .text) ≤ longestReply
@@ -216,7 +216,7 @@ rule-short d (numbers given) = omega arith
 rule-short d (refusal fault) = refusal-short (fault .number) (d .stage .rows)
 
 answer-short : (time : ℕ) (reply : Reply) → length (replyOf time reply) ≤ longestReply
-answer-short time (step.verdict holds) = reply-short 12 time 2 (verdictNumber holds) (omega arith)
+answer-short time (step.verdict holds) = reply-short timeDigits time byteDigits (verdictNumber holds) (omega arith)
 answer-short time (step.refusal fault) = refusal-short (fault .number) (firstOf (fault .values))
 
 frame-short : (s : Running) (said : Said) → length (frameReply s said) ≤ longestReply

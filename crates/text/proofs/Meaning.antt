@@ -10,8 +10,7 @@ use Rattle.lines.specs.Digits.{byteAt}
 use Rattle.lines.specs.Line.{lineFeed}
 use Rattle.lines.specs.Read.{Said, end, numbers, refusal}
 use Rattle.lines.specs.Frame.{readFrame}
-use Rattle.monitor.specs.Start.{startOf}
-use Rattle.monitor.specs.Step.{Call, Reply}
+use Rattle.monitor.specs.Step.{Call}
 use Rattle.promises.specs.Stream.{State, Starts, next, after, callTime, state, started, clock, outcome}
 use Rattle.promises.proofs.CallKept.{call-kept}
 use Rattle.promises.proofs.StreamKept.{stream-kept}

@@ -13,23 +13,32 @@ unfoldable pub replyLine : (n first m second : ℕ) → List ℕ
 replyLine n first m second = digits n first ++ (digits m second ++ (lineFeed ∷ []))
 
 -- "need in 8 digits".
-abbrev pub needLine : ℕ → List ℕ
-needLine need = replyLine 0 0 8 need
+abbrev pub needDigits : ℕ
+needDigits = 8
 
--- "per frame 12 digits of time and 00 or 01".
+abbrev pub needLine : ℕ → List ℕ
+needLine need = replyLine 0 0 needDigits need
+
+-- "per frame 12 digits of time and 00 or 01": a byte has two digits.
+abbrev pub timeDigits : ℕ
+timeDigits = 12
+
+abbrev pub byteDigits : ℕ
+byteDigits = 2
+
 abbrev pub verdictNumber : Bool → ℕ
 verdictNumber true = 1
 verdictNumber false = 0
 
 abbrev pub verdictLine : ℕ → Bool → List ℕ
-verdictLine time holds = replyLine 12 time 2 (verdictNumber holds)
+verdictLine time holds = replyLine timeDigits time byteDigits (verdictNumber holds)
 
 -- "per refusal EE, number 2 digits, row or 00".
 abbrev pub refusalMark : ℕ
 refusalMark = 0xEE
 
 abbrev pub refusalLine : ℕ → ℕ → List ℕ
-refusalLine number row = digits 2 refusalMark ++ replyLine 2 number 2 row
+refusalLine number row = digits byteDigits refusalMark ++ replyLine byteDigits number byteDigits row
 
 -- A refusal with the row that it gives, or 00.
 abbrev pub refusedLine : Refused → List ℕ
@@ -37,7 +46,7 @@ refusedLine fault = refusalLine (fault .number) (firstOf (fault .values))
 
 -- No line is longer than a verdict's.
 abbrev pub longestReply : ℕ
-longestReply = 15
+longestReply = timeDigits + byteDigits + 1
 
 -- A line is written at a place, over what is there; the next place is the one after it.
 pub record Wrote (out : List ℕ) (place : ℕ) (line : List ℕ) (next : ℕ) (after : List ℕ) : Type 0 where

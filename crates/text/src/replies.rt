@@ -7,6 +7,16 @@ ghost use Rattle.text.specs.Replies.{longestReply, replyLine, needLine, 
 use lines::digits::write_digits;
 use rules::refusal::Refusal;
 
+// "need in 8 digits", "12 digits of time", and two digits for every other number, a byte.
+const NEED_DIGITS: usize = 8;
+
+const TIME_DIGITS: usize = 12;
+
+const BYTE_DIGITS: usize = 2;
+
+// "EE", with which a refusal begins.
+const REFUSAL_MARK: u64 = 0xEE;
+
 // No line that is written is longer: "12 digits of time and 00 or 01", and the line feed.
 pub const LONGEST_REPLY: usize = 15;
 
@@ -15,7 +25,7 @@ pub(crate) fn write_need(out: &mut [u8], place: usize, need: u64) -> usize
     requires { ⌜ place + longestReply ≤ length (now out) ⌝ }
     ensures { λ r. ⌜ Wrote (now (out .entry)) place (needLine need) r (now (out .exit)) ⌝ }
 {
-    write_reply(out, place, 0, 0, 8, need)
+    write_reply(out, place, 0, 0, NEED_DIGITS, need)
 }
 
 // "12 digits of time and 00 or 01".
@@ -24,9 +34,9 @@ pub(crate) fn write_verdict(out: &mut [u8], place: usize, time: u64, holds: bool
     ensures { λ r. ⌜ Wrote (now (out .entry)) place (verdictLine time holds) r (now (out .exit)) ⌝ }
 {
     if holds {
-        return write_reply(out, place, 12, time, 2, 1);
+        return write_reply(out, place, TIME_DIGITS, time, BYTE_DIGITS, 1);
     }
-    write_reply(out, place, 12, time, 2, 0)
+    write_reply(out, place, TIME_DIGITS, time, BYTE_DIGITS, 0)
 }
 
 // A refusal with the row that it gives, or 00.
@@ -47,8 +57,15 @@ pub(crate) fn write_refusal(out: &mut [u8], place: usize, number: u64, row: u64)
     requires { ⌜ place + longestReply ≤ length (now out) ⌝ }
     ensures { λ r. ⌜ Wrote (now (out .entry)) place (refusalLine number row) r (now (out .exit)) ⌝ }
 {
-    write_digits(out, place, 2, 0xEE);
-    write_reply(out, place + 2, 2, number, 2, row)
+    write_digits(out, place, BYTE_DIGITS, REFUSAL_MARK);
+    write_reply(
+        out,
+        place + BYTE_DIGITS,
+        BYTE_DIGITS,
+        number,
+        BYTE_DIGITS,
+        row,
+    )
 }
 
 // A line of two numbers, each in so many digits. The place after it.

@@ -2,7 +2,7 @@
 -- All that the proof knows of `judge` is that it meets its contract; the walk hands its fact on and never opens it.
 -- The store goes to the callee at its own lifetime, share and name and is given up for good; the table is Copy and is had twice; the record, the call and the answer are plain, so what they own is made of their relations.
 -- Assumes nothing.
-use mathlib.Core.Path.{_≡_, refl, ap, subst}
+use mathlib.Core.Path.{_≡_, refl, ap}
 use Prim.Native.Nat.{ℕ}
 use mathlib.Core.List.{List, [], _∷_}
 use lib.Dec.{T as Holds}
@@ -31,7 +31,7 @@ use denote.Builtin.{u32, u64}
 use denote.Exit.{yes}
 use denote.Ref.{RefT, MutRef, now, ptr-vals, mut-tells}
 use denote.Signature.{plain}
-use denote.Slice.{sliceVal, ShrSlice, MutSlice, Room, finally, slice-vals, shr-slice-tells, mut-slice-tells, shr-slice-lawful, mut-slice-lawful, shr-slice-copy}
+use denote.Slice.{sliceVal, ShrSlice, MutSlice, finally, slice-vals, shr-slice-tells, mut-slice-tells, shr-slice-lawful, mut-slice-lawful, shr-slice-copy}
 use denote.Steps.{only, opens, closes, owned, peeks, heard, nothing}
 use denote.Enum.Laws as EL
 use denote.Struct.Laws as LL

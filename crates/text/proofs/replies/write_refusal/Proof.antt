@@ -3,6 +3,7 @@ use native.Mathlib.Omega.{arith}
 use Prim.Native.Nat.{_+_, _≤_}
 use lib.ListN.{length}
 use borrow.Author.Needs.{needs}
+use Rattle.text.specs.Replies.{byteDigits}
 use Rattle.text.proofs.WroteLaws.{wrote-more, wrote-digits}
 use Rattle.text.proofs.replies.write_refusal.Statement.{statement}
 use Rattle.text.proofs.replies.write_refusal.Tie as tie
@@ -23,8 +24,8 @@ returns : tie.Need-returns
 returns c =
     let one = c .before .before .before .before .before .before in
     let entry = one .before .before .before .args in
-    let room : entry .place + 2 ≤ length (entry .out .now) = omega arith in
-    wrote-more (entry .out .now) (entry .place) _ (entry .place + 2) (one .write-digits .last .0) _ _ _ (omega arith)
+    let room : entry .place + byteDigits ≤ length (entry .out .now) = omega arith in
+    wrote-more (entry .out .now) (entry .place) _ (entry .place + byteDigits) (one .write-digits .last .0) _ _ _ (omega arith)
     (wrote-digits _ _ _ _ _ _ room (one .write-digits .ensures))
     (c .before .before .write-reply .ensures)
 

@@ -1,74 +1,56 @@
+-- `text::turn::add_row` meets its contract: five stores, one after the other. Assumes nothing.
 use native.Mathlib.Omega.{arith}
-use Prim.Native.Nat.{_-_}
 use lib.ListN.{length-set}
 use borrow.Author.Needs.{needs}
 use Rattle.text.proofs.TurnLaws.{row-stored}
 use Rattle.text.proofs.turn.add_row.Statement.{statement}
 use Rattle.text.proofs.turn.add_row.Tie as tie
-use Rattle.text.proofs.turn.add_row.Reads as reads
-use Rattle.text.proofs.turn.add_row.Lts as lts
 
--- src/turn.rt:150:5
 mul-table : tie.Need-mul-table
 mul-table c = search needs
 
--- src/turn.rt:150:5
 slice-write-table : tie.Need-slice-write-table
 slice-write-table c = search needs
 
--- src/turn.rt:151:11
 add-table : tie.Need-add-table
 add-table c = search needs
 
--- src/turn.rt:151:5
 mul-table-2 : tie.Need-mul-table-2
 mul-table-2 c = search needs
 
--- src/turn.rt:151:5
 slice-write-table-2 : tie.Need-slice-write-table-2
 slice-write-table-2 c = simp length-set (omega arith)
 
--- src/turn.rt:152:11
 add-table-2 : tie.Need-add-table-2
 add-table-2 c = search needs
 
--- src/turn.rt:152:5
 mul-table-3 : tie.Need-mul-table-3
 mul-table-3 c = search needs
 
--- src/turn.rt:152:5
 slice-write-table-3 : tie.Need-slice-write-table-3
 slice-write-table-3 c = simp length-set (omega arith)
 
--- src/turn.rt:153:11
 add-table-3 : tie.Need-add-table-3
 add-table-3 c = search needs
 
--- src/turn.rt:153:5
 mul-table-4 : tie.Need-mul-table-4
 mul-table-4 c = search needs
 
--- src/turn.rt:153:5
 slice-write-table-4 : tie.Need-slice-write-table-4
 slice-write-table-4 c = simp length-set (omega arith)
 
--- src/turn.rt:154:11
 add-table-4 : tie.Need-add-table-4
 add-table-4 c = search needs
 
--- src/turn.rt:154:5
 mul-table-5 : tie.Need-mul-table-5
 mul-table-5 c = search needs
 
--- src/turn.rt:154:5
 slice-write-table-5 : tie.Need-slice-write-table-5
 slice-write-table-5 c = simp length-set (omega arith)
 
--- src/turn.rt:146:1
 same-length : tie.Need-same-length
 same-length c = search needs
 
--- src/turn.rt:146:1
 returns : tie.Need-returns
 returns c = row-stored _ _ _ _ _ _ _ (c .pre)
 
