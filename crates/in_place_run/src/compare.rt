@@ -12,10 +12,15 @@ use monitor::step;
 use rules::limits::ROW_LIMIT;
 use rules::numbers::number_at;
 
-// The places of a row of answers, more than any stream has calls; what a place holds that no code was written to.
+// A store for every table that is run, and a word past the need.
+pub const WORDS: usize = 5;
+
+// The places of a row of answers: more than any stream has calls, or fewer. What a place holds that no code was written to.
 const PLACES: usize = 12;
 
-pub const UNWRITTEN: u32 = 4_294_967_295;
+const FEW: usize = 4;
+
+const UNWRITTEN: u32 = 4_294_967_295;
 
 pub fn heading(text: &[u8]) {
     say(b"-- ");
@@ -34,7 +39,11 @@ pub fn begin(table: &[u32], store: &mut [u64], other: &mut [u64]) -> Record {
 }
 
 // A start, and then an event at each time.
-pub fn events(table: &[u32], store: &mut [u64], other: &mut [u64], times: &[u64], masks: &[u32]) {
+pub fn events(table: &[u32], times: &[u64], masks: &[u32]) {
+    let mut space = [9; WORDS];
+    let store: &mut [u64] = &mut space;
+    let mut other_space = [9; WORDS];
+    let other: &mut [u64] = &mut other_space;
     let found = begin(table, store, other);
     events_from(table, store, other, found, times, masks);
 }
@@ -56,13 +65,11 @@ pub fn events_from(
 }
 
 // A start, and then a frame of each counter.
-pub fn frames(
-    table: &[u32],
-    store: &mut [u64],
-    other: &mut [u64],
-    counters: &[u16],
-    masks: &[u32],
-) {
+pub fn frames(table: &[u32], counters: &[u16], masks: &[u32]) {
+    let mut space = [9; WORDS];
+    let store: &mut [u64] = &mut space;
+    let mut other_space = [9; WORDS];
+    let other: &mut [u64] = &mut other_space;
     let found = begin(table, store, other);
     let mut codes = [UNWRITTEN; PLACES];
     let mut places = [UNWRITTEN; PLACES];
@@ -71,17 +78,19 @@ pub fn frames(
     compared(store, other, by_value, in_place, &codes, &places);
 }
 
-// In place over rows of any lengths; by value at the first times, as many as are to be judged. The codes and places are given unwritten.
-pub fn rows_of(times: &[u64], masks: &[u32], first: &[u64], codes: &mut [u32], places: &mut [u32]) {
+// In place over rows of any lengths with a few places for answers; by value at the first times, as many as are to be judged.
+pub fn rows_of(times: &[u64], masks: &[u32], first: &[u64]) {
     let table: &[u32] = &tables::SINCE;
-    let mut space = [9; 5];
+    let mut space = [9; WORDS];
     let store: &mut [u64] = &mut space;
-    let mut other_space = [9; 5];
+    let mut other_space = [9; WORDS];
     let other: &mut [u64] = &mut other_space;
     let found = begin(table, store, other);
-    let by_value = events_by_value(table, store, found, first, masks, codes);
-    let in_place = run_events(table, other, found, times, masks, places);
-    compared(store, other, by_value, in_place, codes, places);
+    let mut codes = [UNWRITTEN; FEW];
+    let mut places = [UNWRITTEN; FEW];
+    let by_value = events_by_value(table, store, found, first, masks, &mut codes);
+    let in_place = run_events(table, other, found, times, masks, &mut places);
+    compared(store, other, by_value, in_place, &codes, &places);
 }
 
 fn events_by_value(
