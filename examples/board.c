@@ -17,7 +17,7 @@ static const uint32_t rules[] = {
 };
 
 #define RULES (sizeof rules / sizeof rules[0])
-#define STORE 4 /* the need of these rules, as tools/table prints it */
+#define STORE 4 /* the need of these rules, which muk_check tells; with less muk_start refuses 4 */
 
 static uint64_t store[STORE];
 static muk_record record;
@@ -47,15 +47,15 @@ int main(void) {
         return 1;
     for (;;) {
         muk_line line = muk_read_frame(received, sizeof received - 1, place);
-        if (line.what == 0)
-            return 0; /* A board would wait here for more. */
+        if (line.what == MUK_END)
+            return 0; /* A board would wait here for more, whole lines only: one that the text's end cuts off is refused 8. */
         place = (size_t)line.next;
-        if (line.what == 2) {
+        if (line.what == MUK_BAD_LINE) {
             printf("line refused %" PRIu32 "\n", line.number);
             continue;
         }
         muk_answer answer = muk_frame_in(rules, RULES, store, STORE, &record, (uint16_t)line.counter, line.mask);
-        if (answer.what == 0) {
+        if (answer.what == MUK_REFUSED) {
             printf("frame refused %" PRIu32 "\n", answer.number);
             if (answer.number == 7 && !start()) /* The record or the store was damaged: begin again. */
                 return 1;
