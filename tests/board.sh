@@ -1,13 +1,13 @@
 #!/usr/bin/env bash
-# The archive as C and Rust link it: examples/board.c with every warning an error and with the address and undefined-behaviour sanitizers, and the
-# comparison with the two references of tests/reference/. The archive is for x86-64: on another processor the compilers are cross compilers and what
-# they make runs under the emulator that the Rattle kit has for its own programs, or, with the address sanitizer, under Debian's newer one.
-# A Debian package that is missing is installed where that can be done.
+# The archive as C and Rust link it, in four parts: include/muktrashi.h as C++; tests/header.c and examples/board.c with every warning an error and with
+# the address and undefined-behaviour sanitizers; the comparison with the two references of tests/reference/. The archive is for x86-64: on another
+# processor the compilers are cross compilers and what they make runs under the emulator that the Rattle kit has for its own programs, or, with the address
+# sanitizer, under Debian's newer one. A Debian package that is missing is installed where that can be done. A part that cannot run is not counted.
 set -u
 cd "$(dirname "$0")/.." || exit 2
 work=$(mktemp -d) || exit 2
 trap 'rm -rf "$work"' EXIT
-failures=0
+failures=0 ran=0
 target=x86_64-unknown-linux-gnu
 machine=$(uname -m)
 
@@ -18,6 +18,11 @@ say() {
 fail() {
     say "$*"
     failures=$((failures + 1))
+}
+
+command -v rt >/dev/null 2>&1 || {
+    say "the command 'rt' of the Rattle kit is not on the PATH; install the kit that .ci/kit names, then run this again"
+    exit 1
 }
 
 # install PACKAGE..: from Debian's archive, as root.
@@ -56,11 +61,7 @@ newer_emulator() {
 tools='' emulator=''
 gcc=gcc gcc_packages=(gcc libc6-dev) rust_packages=(rustc) libraries=() linker=()
 if [ "$machine" != x86_64 ]; then
-    tools=$(dirname "$(dirname "$(readlink -f "$(command -v rt)")")")/on/$machine/toolchain
-    if [ ! -x "$tools/bin/qemu-x86_64" ]; then
-        say "warning: NOT RUN: the archive is for x86-64, and the Rattle kit has no emulator of it for $machine"
-        exit 0
-    fi
+    tools=$(tools/emulator) || exit 1
     emulator=$tools/bin/qemu-x86_64
     gcc=x86_64-linux-gnu-gcc gcc_packages=(gcc-x86-64-linux-gnu libc6-dev-amd64-cross) rust_packages=(rustc libstd-rust-dev:amd64)
     # The kit's C library is all that the emulator gives.
@@ -75,10 +76,10 @@ there_is_gcc() {
 # A rustc that has the standard library for x86-64; its path is in `rust`.
 there_is_rust() {
     local folder
-    for rust in $(type -ap rustc); do
+    while IFS= read -r rust; do
         folder=$("$rust" --print target-libdir --target "$target" 2>/dev/null)
         compgen -G "$folder/libstd-*.rlib" >/dev/null && return 0
-    done
+    done < <(type -ap rustc)
     return 1
 }
 
@@ -96,7 +97,7 @@ needs() {
 builds() {
     local sanitizers=$1 source=$2 program=$3
     shift 3
-    "$gcc" -std=c11 -Wall -Wextra -Werror -g "-fsanitize=$sanitizers" -fno-sanitize-recover=all "${libraries[@]}" -Iinclude "$source" "$@" -o "$program"
+    "$gcc" -std=c99 -pedantic -Wall -Wextra -Werror -g "-fsanitize=$sanitizers" -fno-sanitize-recover=all "${libraries[@]}" -Iinclude "$source" "$@" -o "$program"
 }
 
 # Whether the address sanitizer works here: a good program ends well, one that reads past a row does not and is told of.
@@ -112,22 +113,38 @@ rt staticlib board >"$work/log" 2>&1 || {
     exit 1
 }
 
-if needs there_is_gcc examples/board.c "${gcc_packages[@]}"; then
+# runs SOURCE OUTPUT: builds a C program over the archive and runs it; it writes what the file OUTPUT has.
+runs() {
+    local difference
+    ran=$((ran + 1))
+    builds "$sanitizers" "$1" "$work/program" target/staticlib/libboard.a || {
+        fail "$1 is not compiled"
+        return
+    }
+    run "$work/program" >"$work/writes" || fail "$1 ended with status $?"
+    difference=$(diff "$work/writes" "$2") || fail "$1: what it writes (<) and $2 (>) differ:
+$difference"
+}
+
+if command -v g++ >/dev/null 2>&1; then
+    ran=$((ran + 1))
+    g++ -std=c++11 -pedantic -Wall -Wextra -Werror -x c++ -fsyntax-only include/muktrashi.h || fail "include/muktrashi.h is not C++"
+else
+    say "warning: NOT RUN: include/muktrashi.h as C++; it needs g++, for any processor"
+fi
+
+if needs there_is_gcc "tests/header.c and examples/board.c" "${gcc_packages[@]}"; then
     sanitizers=address,undefined
     if ! sanitizer_tells && ! { newer_emulator && sanitizer_tells; }; then
         sanitizers=undefined
-        say "warning: no program runs with the address sanitizer here, so examples/board.c runs without it"
+        say "warning: no program runs with the address sanitizer here, so tests/header.c and examples/board.c run without it"
     fi
-    if builds "$sanitizers" examples/board.c "$work/board" target/staticlib/libboard.a; then
-        run "$work/board" >"$work/writes" || fail "examples/board.c ended with status $?"
-        difference=$(diff "$work/writes" examples/board.out) || fail "examples/board.c: what it writes (<) and examples/board.out (>) differ:
-$difference"
-    else
-        fail "examples/board.c is not compiled"
-    fi
+    runs tests/header.c /dev/null
+    runs examples/board.c examples/board.out
 fi
 
 if needs there_is_rust "the comparison with the references" "${rust_packages[@]}"; then
+    ran=$((ran + 1))
     if "$rust" --edition 2021 -O -D warnings --target "$target" "${linker[@]}" -L target/staticlib -l static=board tests/reference/main.rs -o "$work/compare"; then
         run "$work/compare" || fail "the archive and the references differ"
     else
@@ -135,5 +152,5 @@ if needs there_is_rust "the comparison with the references" "${rust_packages[@]}
     fi
 fi
 
-[ "$failures" -eq 0 ] && printf 'board.sh: the archive links and answers as it should\n'
+[ "$failures" -eq 0 ] && printf 'board.sh: %s of 4 parts ran, and the archive links and answers as it should in them\n' "$ran"
 exit "$((failures > 0))"
