@@ -1,6 +1,7 @@
 #!/usr/bin/env bash
-# ./judge says in words what is wrong: no kit, a build that fails, a file that cannot be read. And it builds once, in silence unless that takes long.
-# The kit here is a stand-in, and the program that it builds is `cat`.
+# ./judge says in words what is wrong: no kit, a build that fails, a file that cannot be read, an answer that cannot be written. It builds once, in
+# silence unless that takes long, and answers a live input line by line. The kit here is a stand-in. The program that it builds writes what it reads and,
+# as the real one, ends in silence where it cannot write.
 set -u
 cd "$(dirname "$0")/.." || exit 2
 work=$(mktemp -d) || exit 2
@@ -17,7 +18,7 @@ fresh() {
     rm -rf "$work/repo" "$work/kit"
     mkdir -p "$work/repo/crates/muktrashi/src" "$work/repo/tools" "$work/kit"
     cp judge "$work/repo/"
-    cp tools/run "$work/repo/tools/"
+    cp tools/run tools/emulator "$work/repo/tools/"
     printf 'muktrashi:\n' >"$work/repo/crates.txt"
     printf '#!/usr/bin/env bash\n%s\n' "$1" >"$work/kit/rt"
     chmod +x "$work/kit/rt"
@@ -39,7 +40,9 @@ expect() {
     fi
 }
 
-good='mkdir -p target/bin && cp "$(command -v cat)" target/bin/muktrashi && echo built >>builds'
+printf '#!/bin/sh\ncat 2>/dev/null\nexit 0\n' >"$work/program"
+chmod +x "$work/program"
+good="mkdir -p target/bin && cp '$work/program' target/bin/muktrashi && echo built >>builds"
 printf 'a capture\n' >"$work/capture"
 
 fresh "$good"
@@ -53,7 +56,28 @@ expect 0 'a capture' '' "$work/repo/judge"
 expect 2 '' "no-such cannot be read: there is no such file" "$work/repo/judge" no-such
 expect 2 '' "cannot be read: it is a folder" "$work/repo/judge" "$work"
 expect 2 '' "one file at most" "$work/repo/judge" "$work/capture" "$work/capture"
-expect 0 "$("$work/repo/judge" --help)" '' "$work/repo/judge" --help
+ln -s "$work/repo/judge" "$work/link"
+expect 0 'a capture' '' "$work/link" "$work/capture"
+help=$("$work/repo/judge" --help) || fail "--help ended with status $?"
+[ "${help%%$'\n'*}" = 'usage: ./judge [FILE]' ] || fail "--help writes '$help'"
+
+# A line of a live input is answered before the next one comes.
+coproc live { PATH="$work/kit:$PATH" "$work/repo/judge" 2>&1; }
+printf 'a line\n' >&"${live[1]}"
+read -r -t 20 reply <&"${live[0]}" || reply='nothing'
+[ "$reply" = 'a line' ] || fail "a live line is answered by '$reply'"
+input=${live[1]}
+exec {input}>&-
+wait
+
+if [ -c /dev/full ]; then
+    LC_ALL=C PATH="$work/kit:$PATH" "$work/repo/judge" "$work/capture" 2>"$work/said" >/dev/full
+    status=$?
+    [ "$status" -eq 1 ] || fail "an answer that cannot be written ends with status $status, not 1"
+    grep -q 'No space left on device' "$work/said" || fail "an answer that cannot be written: says '$(cat "$work/said")'"
+else
+    printf 'judge.sh: warning: NOT RUN: an answer that cannot be written; there is no /dev/full\n' >&2
+fi
 
 fresh "sleep 1.5; $good"
 expect 0 'a capture' 'building the program' "$work/repo/judge"
@@ -67,7 +91,7 @@ expect 1 '' "the program cannot be built" "$work/repo/judge"
 
 fresh "$good"
 mkdir "$work/bare"
-for tool in bash dirname find cat; do ln -s "$(command -v "$tool")" "$work/bare/$tool"; done
+for tool in bash dirname readlink find cat; do ln -s "$(command -v "$tool")" "$work/bare/$tool"; done
 rm "$work/kit/rt"
 expect 1 '' "the command 'rt' of the Rattle kit is not on the PATH" env PATH="$work/bare" "$work/repo/judge"
 
