@@ -4,7 +4,9 @@ A rule is five numbers: kind, x, y, a, b. A rule line is these in 24 hexadecimal
 """
 
 import argparse
+import os
 import re
+import signal
 import sys
 from collections import namedtuple
 
@@ -37,10 +39,13 @@ KINDS = (
 
 
 class Refused(Exception):
-    """What the program refuses, with the line that it writes."""
+    """What the program refuses, with the line that it writes. A row is refused at the empty line; without one the program writes EE0800."""
 
-    def __init__(self, place, number, row, reason):
-        super().__init__(f"{place}: refused {number}: {reason} (the program writes EE{number:02X}{row:02X})")
+    def __init__(self, place, number, row, reason, ended=True):
+        writes = f"EE{number:02X}{row:02X}"
+        if not ended:
+            writes = f"EE0800, and {writes} once an empty line ends the rules"
+        super().__init__(f"{place}: refused {number}: {reason} (the program writes {writes})")
 
 
 class OutOfRange(Exception):
@@ -71,6 +76,8 @@ def rule_line(rule):
 
 
 def frame_line(counter, mask):
+    if counter >= TURN:
+        raise OutOfRange(f"counter: {counter} is outside 0 to {TURN - 1}; modulo {TURN} it is {counter % TURN}")
     return line(("counter", "mask"), (counter, mask), FRAME_WIDTHS)
 
 
@@ -79,7 +86,8 @@ def read_rule(text, index):
     place = f"line {index + 1}"
     size = 2 * (sum(RULE_WIDTHS) + 1)
     if not re.fullmatch(rb"[0-9A-F]{%d}\n" % size, text):
-        raise Refused(place, 8, index, f"not {size} digits 0-9 A-F and a line feed")
+        ending = "; it ends in CR LF, not in a line feed alone" if text.endswith(b"\r\n") else ""
+        raise Refused(place, 8, index, f"not {size} digits 0-9 A-F and a line feed{ending}")
     data = bytes.fromhex(text.decode())
     if sum(data[:-1]) % 256 != data[-1]:
         raise Refused(place, 9, index, f"the sum is {sum(data[:-1]) % 256:02X}, and the line says {data[-1]:02X}")
@@ -131,12 +139,12 @@ def limits_fault(rule, _):
     return None
 
 
-def check_row(rule, row):
-    """Refuses what the table check refuses of a row."""
+def check_row(rule, row, ended):
+    """Refuses what the table check refuses of a row; `ended` says whether an empty line ends the rules."""
     for refusal, fault in ((2, form_fault), (3, limits_fault)):
         reason = fault(rule, row)
         if reason is not None:
-            raise Refused(f"row {row}", refusal, row, reason)
+            raise Refused(f"row {row}", refusal, row, reason, ended)
 
 
 def spans(rule):
@@ -181,3 +189,20 @@ def stop(script, status, message):
     """Ends a script with a message in words."""
     print(f"{script}: {message}", file=sys.stderr)
     sys.exit(status)
+
+
+def run(script, main):
+    """Runs a script. A reader that has gone ends it in silence, as it ends other commands; an answer that cannot be written is said in words."""
+    signal.signal(signal.SIGPIPE, signal.SIG_DFL)
+    if sys.stdout is None:
+        stop(script, 2, "the answer cannot be written: standard output is closed")
+    try:
+        try:
+            main()
+        finally:
+            sys.stdout.flush()
+    except OSError as fault:
+        if fault.filename is not None:
+            raise
+        os.dup2(os.open(os.devnull, os.O_WRONLY), sys.stdout.fileno())  # what is left would fail again at the end
+        stop(script, 2, f"the answer cannot be written: {fault.strerror}")
