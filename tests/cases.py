@@ -1,5 +1,5 @@
 #!/usr/bin/env python3
-"""Runs the text program on every NAME.in of a folder and compares what it writes with NAME.out.
+"""Runs the text program on every NAME.in of a folder and compares what it writes with NAME.out. Each run is to end with status 0.
 
 usage: cases.py FOLDER COMMAND..
 
@@ -21,8 +21,9 @@ PATIENCE = 60  # seconds for a reply; a run that waits longer has lost it
 
 
 def whole(command, text):
-    """What the program writes for a text that is there at once."""
-    return subprocess.run(command, input=text, stdout=subprocess.PIPE, check=False).stdout
+    """What the program writes for a text that is there at once, and its status."""
+    ran = subprocess.run(command, input=text, stdout=subprocess.PIPE, check=False)
+    return ran.stdout, ran.returncode
 
 
 def cut(text, longest, seed):
@@ -37,7 +38,7 @@ def cut(text, longest, seed):
 
 
 def fed(command, pieces):
-    """What the program writes for a text in pieces. A socket of packets gives each read one piece."""
+    """What the program writes for a text in pieces, and its status. A socket of packets gives each read one piece."""
     ours, theirs = socket.socketpair(socket.AF_UNIX, socket.SOCK_SEQPACKET)
     with subprocess.Popen(command, stdin=theirs, stdout=subprocess.PIPE) as program:
         theirs.close()
@@ -51,7 +52,7 @@ def fed(command, pieces):
             pass  # the program has ended; what it wrote says the rest
         ours.close()
         reader.join()
-    return written[0]
+    return written[0], program.returncode
 
 
 def replies(program, lines):
@@ -67,7 +68,7 @@ def replies(program, lines):
 
 
 def live(command, text):
-    """What the program writes when every line waits for the reply to the last: one at the empty line and one for each frame."""
+    """What the program writes when every line waits for the reply to the last, one at the empty line and one for each frame, and its status."""
     rules, frames = text.split(b"\n\n", 1)
     with subprocess.Popen(command, stdin=subprocess.PIPE, stdout=subprocess.PIPE) as program:
         program.stdin.write(rules + b"\n\n")
@@ -79,13 +80,17 @@ def live(command, text):
             if frame.endswith(b"\n"):
                 got += replies(program, 1)
         program.stdin.close()
-        return got + program.stdout.read()
+        got += program.stdout.read()
+    return got, program.returncode
 
 
-def differs(name, how, got, wanted):
-    """Says where two outputs part, if they do."""
-    if got == wanted:
+def differs(name, how, got, status, wanted):
+    """Says where two outputs part, if they do, or with which status a run ended, if not with 0."""
+    if got == wanted and status == 0:
         return False
+    if got == wanted:
+        print(f"cases: {name}, {how}: ended with status {status}", file=sys.stderr)
+        return True
     got, wanted = got.split(b"\n"), wanted.split(b"\n")
     line = next((i for i, (g, w) in enumerate(zip(got, wanted)) if g != w), min(len(got), len(wanted)))
     here = lambda lines: lines[line].decode("latin-1") if line < len(lines) else "(nothing more)"
@@ -102,14 +107,14 @@ def main():
     runs = failures = 0
     for path in texts:
         text, wanted = path.read_bytes(), path.with_suffix(".out").read_bytes()
-        outputs = [("whole", whole(command, text))]
+        outputs = [("whole", *whole(command, text))]
         for longest in LONGEST_PIECES:
             seed = f"{path.stem} {longest}"
-            outputs.append((f"cut with seed '{seed}'", fed(command, cut(text, longest, seed))))
+            outputs.append((f"cut with seed '{seed}'", *fed(command, cut(text, longest, seed))))
         if not wanted.startswith(b"EE") and b"\n\n" in text:
-            outputs.append(("line by line", live(command, text)))
+            outputs.append(("line by line", *live(command, text)))
         runs += len(outputs)
-        failures += sum(differs(path.stem, how, got, wanted) for how, got in outputs)
+        failures += sum(differs(path.stem, *output, wanted) for output in outputs)
     print(f"cases: {len(texts)} texts, {runs} runs, {failures} differ")
     sys.exit(1 if failures else 0)
 

@@ -1,6 +1,6 @@
 #!/usr/bin/env bash
 # The gate refuses, with a message that says why: a machine without the kit, a crate that crates.txt does not list, a file out of layout.
-# And it warns about another kit. Each case ends before the gate comes to its tests.
+# It warns about another kit, and refuses where a test fails. Each case ends before `rt ci`.
 set -u
 cd "$(dirname "$0")/.." || exit 2
 work=$(mktemp -d) || exit 2

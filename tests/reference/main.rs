@@ -1,5 +1,5 @@
-//! Compares the archive's functions for C with the two references, over a million calls and more, from a fixed seed. Ends at the first difference,
-//! which it prints with its input, or with the count of calls.
+//! Compares the archive's functions for C with the two references, over a million calls, from a fixed seed. Ends at the first difference, which it
+//! prints with its input, or with the count of calls. Both references read a table by `table` and time a frame by `lines::time_of`.
 //!
 //! `main` is C's: Rust's own start reads the process's memory map, which an emulator may fail to show.
 
@@ -33,7 +33,7 @@ const GUARD: [u64; 2] = [0x5A5A_5A5A_5A5A_5A5A, 0xA5A5_A5A5_A5A5_A5A5];
 /// Ends the program where the archive's outcome is not the reference's.
 fn same<T: PartialEq + Debug>(function: &str, input: &dyn Debug, archive: &T, reference: &T) {
     if archive != reference {
-        println!("{function} differs\ninput     {input:?}\narchive   {archive:?}\nreference {reference:?}");
+        eprintln!("{function} differs\ninput     {input:?}\narchive   {archive:?}\nreference {reference:?}");
         std::process::exit(1);
     }
 }
