@@ -1,5 +1,5 @@
--- A refused call as C sees it: "On refusal the record comes back byte for byte", and the store stays; "A byte other than 0 or 1 in `seen` or `truths`
--- makes the record unsound (7, in its turn)".
+-- A refused call as C sees it: it "leaves every word of the store and every field of the record as it was"; "a record with any other byte there is not
+-- sound (7)", in the order of refusals.
 use mathlib.Core.Bool.{false}
 use mathlib.Core.List.{List}
 use mathlib.Core.Option.{Option, none, some}

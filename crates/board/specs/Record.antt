@@ -24,8 +24,7 @@ tells? byte = leb byte 1
 unfoldable pub readable? : MukRecord → Bool
 readable? given = tells? (given .seen) && every rowLimit (λ row. tells? (getD (given .truths) row 0))
 
--- The record that the bytes tell. "A byte other than 0 or 1 in `seen` or `truths` makes the record unsound": it is taken for a record of no rows,
--- which is sound for no table.
+-- The record that the bytes tell. "a record with any other byte there is not sound": it is taken for a record of no rows, which is sound for no table.
 unfoldable pub recordOf : MukRecord → Record
 recordOf given =
     cond (readable? given)

@@ -59,7 +59,7 @@ pub extern "C" fn muk_frame(
     judged_of(given, judged)
 }
 
-// What was judged, for C. On refusal the record is the one that was given, byte for byte.
+// What was judged, for C. On refusal the record is the one that was given, damaged bytes and all.
 fn judged_of(given: MukRecord, judged: Judged) -> MukJudged
     ensures { λ r. ⌜ r ≡ judgedOf given (said (judged .answer)) (judged .record) ⌝ }
 {

@@ -103,7 +103,7 @@ fn truth_of(byte: u8) -> bool
     byte == 1
 }
 
-pub(crate) fn byte_of(truth: bool) -> u8
+fn byte_of(truth: bool) -> u8
     ensures { λ r. ⌜ r ≡ byteOf truth ⌝ }
 {
     truth as u8
