@@ -17,11 +17,11 @@ use Rattle.rules.specs.declared.numbers.Numbers.{Numbers}
 use Rattle.rules.proofs.PassedLaws.{width-most}
 use Rattle.monitor.specs.declared.record.Record.{Record}
 use Rattle.monitor.specs.declared.event.Judgement.{Judgement}
-use Rattle.monitor.specs.Layout.{packed}
+use Rattle.spans.specs.Layout.{packed}
 use Rattle.monitor.specs.Record.{stretchAt, spansFound}
 use Rattle.monitor.specs.Event.{Moment, spansBy, spansAfter, truthBy, truthOf, truthsAfter, spansNow, countsAfter, wordsDone, storeAfter}
 use Rattle.monitor.specs.Core.{moment, AfterRows, RowReady, RowJudged}
-use Rattle.monitor.proofs.LayoutLaws.{length-packed}
+use Rattle.spans.proofs.LayoutLaws.{length-packed}
 use Rattle.monitor.proofs.RuleLaws.{good-listed}
 use Rattle.monitor.proofs.AcceptedLaws.{Accepted, row-inside, row-laid, row-enough}
 
