@@ -95,7 +95,7 @@ join-endless now latestFirst next ((first to noEnd) ∷ (q ∷ S)) present room 
     absurd (omega arith)
 
 -- Time alone: what is left at t of a stretch that was sound before.
-pub clip-sound : (now t event later latestFirst laterFirst long : ℕ) (b : End) (S : List Span)
+clip-sound : (now t event later latestFirst laterFirst long : ℕ) (b : End) (S : List Span)
     → now ≤ t
     → event ≤ later
     → t ≤ laterFirst

@@ -2,10 +2,10 @@
 -- row's spans are laid out in its stretch, and those after the event have room there, whatever the truths of the lower rows.
 use mathlib.Core.Bool.{Bool, true, false, cond}
 use mathlib.Core.List.{List}
-use mathlib.Core.Logic.{_⊎_, ⊎-elim}
+use mathlib.Core.Logic.{⊎-elim}
 use mathlib.Core.Option.{Option, none, some}
 use mathlib.Core.Path.{_≡_, refl, sym, subst}
-use Prim.Native.Nat.{ℕ, _+_, _*_, _-_, _^_, _≤_, _<_}
+use Prim.Native.Nat.{ℕ, _+_, _*_, _^_, _≤_, _<_}
 use native.Mathlib.Omega.{arith}
 use lib.Dec.{T, leb, eqb}
 use lib.ListN.{length, length-take, length-drop}
@@ -24,16 +24,16 @@ use Rattle.rules.specs.declared.refusal.Refusal.{Refusal}
 use Rattle.rules.specs.declared.refusal.Refusal.the-variants.{Earlier, Late, Record}
 use Rattle.rules.proofs.PassedLaws.{InRange}
 use Rattle.rules.proofs.StretchesLaws.{stretch-before}
-use Rattle.monitor.specs.declared.record.Record as Kept
 use Rattle.spans.specs.Layout.{Packed}
+use Rattle.spans.proofs.LayoutLaws.{Storable}
+use Rattle.spans.proofs.SoundTold.{SoundStretch, stretch-told}
+use Rattle.spans.proofs.StretchKept.{sound-packed, sound-ready}
+use Rattle.monitor.specs.declared.record.Record as Kept
 use Rattle.monitor.specs.Record.{timeLimit, truthAt, heldAt, stretchAt, spansFound}
 use Rattle.monitor.specs.Soundness.{soundRow?, sound?}
 use Rattle.monitor.specs.Ready.{readyOf, refusalIn}
 use Rattle.monitor.specs.Event.{Moment, spansBy, spansAfter}
 use Rattle.monitor.specs.Step.{Setup, Call, timeOf, _orElse_, unless, refusalOf}
-use Rattle.spans.proofs.LayoutLaws.{Storable}
-use Rattle.spans.proofs.SoundTold.{SoundStretch, stretch-told}
-use Rattle.spans.proofs.StretchKept.{sound-packed, sound-ready}
 use Rattle.monitor.proofs.ReadyLaws.{Ready, ready-none}
 use Rattle.monitor.proofs.ReachLaws.{reach-storable}
 use Rattle.monitor.proofs.SoundnessLaws.{every-at, sound-parts}

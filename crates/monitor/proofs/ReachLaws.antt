@@ -7,8 +7,8 @@ use lib.Dec.{leb, eqb}
 use borrow.Author.Tests.{le-leb, lt-leb, leb-true, leb-false}
 use Rattle.meaning.specs.Interval.{upTo, noEnd, noEndNumber, endOf, _+End_}
 use Rattle.spans.specs.Layout.{mark, endAt}
-use Rattle.monitor.specs.Record.{timeLimit}
 use Rattle.spans.proofs.LayoutLaws.{Storable, plain-end}
+use Rattle.monitor.specs.Record.{timeLimit}
 
 -- The gap is compared in place of the times, so that no sum is made.
 pub gap-told : (former b time : ℕ) → former ≤ time → leb (time - former) b ≡ leb time (former + b)

@@ -18,8 +18,8 @@ use Rattle.rules.specs.Stretches.{spansOf, width, offset}
 use Rattle.rules.specs.declared.numbers.Numbers.{Numbers}
 use Rattle.rules.proofs.Truths.{and-false, and-left, and-right}
 use Rattle.rules.proofs.StretchesLaws.{stretch-before}
-use Rattle.monitor.specs.declared.record.Record.{Record}
 use Rattle.spans.specs.StretchSound.{soundStretch?}
+use Rattle.monitor.specs.declared.record.Record.{Record}
 use Rattle.monitor.specs.Record.{timeLimit, truthAt, heldAt, stretchAt}
 use Rattle.monitor.specs.Soundness.{every, soundEntry?, soundRow?, sound?}
 use Rattle.monitor.proofs.ReadyLaws.{Ready}

@@ -10,8 +10,8 @@ use Rattle.rules.specs.Limits.{rowLimit}
 use Rattle.rules.specs.Rows.{rowsOf, numbersAt}
 use Rattle.rules.specs.Stretches.{spansOf}
 use Rattle.rules.specs.declared.numbers.Numbers.{Numbers}
-use Rattle.monitor.specs.declared.record.Record.{Record}
 use Rattle.spans.specs.StretchSound.{soundStretch?}
+use Rattle.monitor.specs.declared.record.Record.{Record}
 use Rattle.monitor.specs.Record.{timeLimit, truthAt, heldAt, stretchAt}
 
 -- Every row below n passes.

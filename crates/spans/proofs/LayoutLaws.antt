@@ -33,11 +33,6 @@ abbrev pub Storable : End → Type 0
 Storable (upTo last) = last < mark
 Storable noEnd = Unit
 
-pub end-back : (end : End) → Storable end → endAt (wordOf end) ≡ end
-unfolding endAt
-end-back (upTo last) h = plain-end last h
-end-back noEnd h = refl
-
 pub word-back : (word : ℕ) → wordOf (endAt word) ≡ word
 word-back word = end-cases (λ e. wordOf e ≡ word) word (λ h. sym h) (λ h. refl)
 
@@ -121,7 +116,7 @@ pub laid-zeros : {size : ℕ} {words : List ℕ} {held : Held} {S : List Span} �
 laid-zeros {size} {words} {held} {S} laid = rw (laid .written, laid .counted) (zeros-after size S)
 
 -- A stretch that is as long as it is said to be has room for its spans.
-pub laid-room : {size : ℕ} {words : List ℕ} {held : Held} {S : List Span} → Laid size words held S → length words ≡ size → 2 * held .count ≤ size
+laid-room : {size : ℕ} {words : List ℕ} {held : Held} {S : List Span} → Laid size words held S → length words ≡ size → 2 * held .count ≤ size
 unfolding packed
 laid-room {size} {words} {held} {S} laid long =
     let count : held .count ≡ length S = laid .counted in

@@ -1,13 +1,11 @@
 -- Any two outcomes that the contract of a public function allows are the same. `past_by`, `clear_words` and `sound` say all by one equation each.
-use mathlib.Core.Bool.{Bool}
 use mathlib.Core.List.{List}
 use mathlib.Core.Path.{_≡_, sym, _∙_}
 use Prim.Native.Nat.{ℕ}
-use lib.ListN.{length}
 use Rattle.meaning.specs.Spans.{Span}
 use Rattle.spans.specs.declared.stretch.Held.{Held}
 use Rattle.spans.specs.declared.stretch.Updated.{Updated}
-use Rattle.spans.specs.Stretch.{covered, spansUpdated, UpdatedTo}
+use Rattle.spans.specs.Stretch.{UpdatedTo}
 
 -- `spans::stretch::update`: the answer, and every word of what was lent.
 pub one-update : (words : List ℕ) (held : Held) (time : ℕ) (S : List Span) (updated updated′ : Updated) (after after′ : List ℕ)

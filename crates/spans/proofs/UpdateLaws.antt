@@ -9,7 +9,7 @@ use lib.ListN.{length, length-take}
 use Rattle.meaning.specs.Spans.{Span, _to_, touches, extended, clip, join, update}
 use Rattle.spans.specs.declared.stretch.Held.{Held}
 use Rattle.spans.specs.declared.stretch.Updated.{Updated}
-use Rattle.spans.specs.Layout.{endAt, spansHeld, packed, Laid, Packed, fitting, over, freed}
+use Rattle.spans.specs.Layout.{endAt, spansHeld, Laid, Packed, fitting, over, freed}
 use Rattle.spans.specs.Stretch.{covered, spansIn, spansUpdated, Written, UpdatedTo}
 use Rattle.spans.proofs.LayoutLaws.{
   Stored,
@@ -29,12 +29,12 @@ use Rattle.spans.proofs.LayoutLaws.{
 use Rattle.spans.proofs.ClipLaws.{clip-stored}
 use Rattle.spans.proofs.JoinLaws.{join-stored}
 
-pub kept-stored : (keep : Bool) (time : ℕ) (S : List Span) → Stored S → Stored (cond keep (clip time S) [])
+kept-stored : (keep : Bool) (time : ℕ) (S : List Span) → Stored S → Stored (cond keep (clip time S) [])
 unfolding Stored
 kept-stored true time S h = clip-stored time S h
 kept-stored false time S h = tt
 
-pub update-stored : (keep feed : Bool) (time first last : ℕ) (S : List Span) → Stored S
+update-stored : (keep feed : Bool) (time first last : ℕ) (S : List Span) → Stored S
     → Stored (update keep feed time (first to endAt last) S)
 unfolding update
 update-stored keep true time first last S h =
@@ -52,7 +52,7 @@ join-grows s (p ∷ []) = go (touches p s)
     go false = omega arith
 join-grows s (p ∷ q ∷ S) = omega (arith, join-grows s (q ∷ S))
 
-pub fed-grows : (feed : Bool) (s : Span) (K : List Span) (words : List ℕ) → 2 * length K ≤ length words
+fed-grows : (feed : Bool) (s : Span) (K : List Span) (words : List ℕ) → 2 * length K ≤ length words
     → length K ≤ length (fitting words (cond feed (join s K) K))
 fed-grows true s K words room = rw length-take (omega (arith, join-grows s K))
 fed-grows false s K words room = rw length-take (omega arith)

@@ -1,5 +1,4 @@
 -- `spans::stretch::append` meets its contract: no room and nothing written, or two words (`left-out`, `append-written`). Assumes nothing.
-use Prim.Native.Nat.{_+_}
 use native.Mathlib.Omega.{arith}
 use borrow.Author.Needs.{needs}
 use lib.ListN.{length-set}

@@ -1,5 +1,5 @@
 -- `spans::stretch::fit` meets its contract, by its test: `take-spans` where there are more, `take-all` where there are not. Assumes nothing.
-use mathlib.Core.Path.{_≡_, sym}
+use mathlib.Core.Path.{sym}
 use Prim.Native.Nat.{_/_}
 use native.Mathlib.Omega.{arith}
 use lib.ListN.{length}
