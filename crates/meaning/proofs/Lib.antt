@@ -7,5 +7,6 @@ pub mod SpansLaws
 pub mod SoundLaws
 pub mod RunsLaws
 pub mod FigureLaws
+pub mod SoundKept
 pub mod FrameTimeLaws
 pub mod NumbersRight

@@ -2,10 +2,10 @@
 -- row's spans are laid out in its stretch, and those after the event have room there, whatever the truths of the lower rows.
 use mathlib.Core.Bool.{Bool, true, false, cond}
 use mathlib.Core.List.{List}
-use mathlib.Core.Logic.{_⊎_, ⊎-elim}
+use mathlib.Core.Logic.{⊎-elim}
 use mathlib.Core.Option.{Option, none, some}
 use mathlib.Core.Path.{_≡_, refl, sym, subst}
-use Prim.Native.Nat.{ℕ, _+_, _*_, _-_, _^_, _≤_, _<_}
+use Prim.Native.Nat.{ℕ, _+_, _*_, _^_, _≤_, _<_}
 use native.Mathlib.Omega.{arith}
 use lib.Dec.{T, leb, eqb}
 use lib.ListN.{length, length-take, length-drop}
@@ -24,19 +24,18 @@ use Rattle.rules.specs.declared.refusal.Refusal.{Refusal}
 use Rattle.rules.specs.declared.refusal.Refusal.the-variants.{Earlier, Late, Record}
 use Rattle.rules.proofs.PassedLaws.{InRange}
 use Rattle.rules.proofs.StretchesLaws.{stretch-before}
+use Rattle.spans.specs.Layout.{Packed}
+use Rattle.spans.proofs.LayoutLaws.{Storable}
+use Rattle.spans.proofs.SoundTold.{SoundStretch, stretch-told}
+use Rattle.spans.proofs.StretchKept.{sound-packed, sound-ready}
 use Rattle.monitor.specs.declared.record.Record as Kept
-use Rattle.monitor.specs.Layout.{wordOf, Packed}
-use Rattle.monitor.specs.StretchSound.{SoundStretch}
 use Rattle.monitor.specs.Record.{timeLimit, truthAt, heldAt, stretchAt, spansFound}
 use Rattle.monitor.specs.Soundness.{soundRow?, sound?}
 use Rattle.monitor.specs.Ready.{readyOf, refusalIn}
 use Rattle.monitor.specs.Event.{Moment, spansBy, spansAfter}
 use Rattle.monitor.specs.Step.{Setup, Call, timeOf, _orElse_, unless, refusalOf}
-use Rattle.monitor.proofs.LayoutLaws.{Storable, end-back}
-use Rattle.monitor.proofs.SoundTold.{stretch-told}
-use Rattle.monitor.proofs.StretchKept.{sound-packed, sound-ready}
 use Rattle.monitor.proofs.ReadyLaws.{Ready, ready-none}
-use Rattle.monitor.proofs.ReachLaws.{reach-storable, reach-word}
+use Rattle.monitor.proofs.ReachLaws.{reach-storable}
 use Rattle.monitor.proofs.SoundnessLaws.{every-at, sound-parts}
 
 -- The conditions of a call, each met.
@@ -100,34 +99,31 @@ module _ (table store : List ℕ) (found : Kept.Record) (time : ℕ) (met : Acce
         let inside = row-inside in
         simp (length-take, length-drop) (omega arith)
 
+    storable : Storable (found .time +End endOf (numbers .b))
+    storable =
+        reach-storable (found .time) (numbers .b) (omega (arith, met .early, met .risen)) (limit-fits (numbers .a) (numbers .b) range)
+
     stretch-sound :
-        SoundStretch (stretchAt table store row) (heldAt found row) (found .time) (found .time + numbers .a)
-        (wordOf (found .time +End endOf (numbers .b))) (lengthOf (numbers .a) (endOf (numbers .b)))
+        SoundStretch (stretchAt table store row) (heldAt found row) (found .time) (found .time + numbers .a) (found .time +End endOf (numbers .b))
+        (lengthOf (numbers .a) (endOf (numbers .b)))
     unfolding soundRow?
     stretch-sound =
-        stretch-told (stretchAt table store row) (heldAt found row) (found .time) (found .time + numbers .a) (wordOf (found .time +End endOf (numbers .b)))
-        (lengthOf (numbers .a) (endOf (numbers .b)))
-        (reach-word (found .time) (numbers .b) (omega (arith, met .early, met .risen)) (limit-fits (numbers .a) (numbers .b) range))
+        stretch-told (stretchAt table store row) (heldAt found row) (found .time) (found .time + numbers .a) (found .time +End endOf (numbers .b))
+        (lengthOf (numbers .a) (endOf (numbers .b))) storable
         .sound
         (subst T (sym (every-at (rowsOf table) row (soundRow? table store found) lower (sound-parts table store found (met .sound) .1))) tt)
-
-    room : Storable (time +End endOf (numbers .b))
-    room = reach-storable time (numbers .b) (met .early) (limit-fits (numbers .a) (numbers .b) range)
 
     pub row-laid : Packed (stretchAt table store row) (heldAt found row)
     row-laid =
         sound-packed (found .time) time (found .time) (numbers .a) (found .time + numbers .a) (endOf (numbers .b)) (stretchAt table store row)
-        (heldAt found row) (order (numbers .a) (numbers .b) range) (met .risen) (met .risen) room stretch-sound
+        (heldAt found row) storable stretch-sound
 
     room-for : (keep feed : Bool) → 2 * figure (numbers .a) (endOf (numbers .b)) ≤ length (stretchAt table store row)
         → 2 * length (update keep feed time (reach time (numbers .a) (endOf (numbers .b))) (spansFound table store found row))
         ≤ length (stretchAt table store row)
     room-for keep feed size =
-        rw (end-back (time +End endOf (numbers .b)) room)
-        at (
         sound-ready (found .time) time (found .time) (numbers .a) (found .time + numbers .a) (endOf (numbers .b)) (stretchAt table store row)
-        (heldAt found row) (order (numbers .a) (numbers .b) range) (met .risen) (met .risen) room stretch-sound keep feed size
-        )
+        (heldAt found row) storable stretch-sound keep feed (order (numbers .a) (numbers .b) range) (met .risen) (met .risen) size
 
 -- The spans of a row after the event have room, whatever the truths of the lower rows.
 module _ (m : Moment) (met : Accepted (m .table) (m .store) (m .found) (m .time)) (row : ℕ) (lower : row < rowsOf (m .table)) (truths : List Bool) where

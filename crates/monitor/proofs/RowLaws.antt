@@ -14,12 +14,12 @@ use Rattle.rules.specs.Rows.{numbersAt, ruleOf}
 use Rattle.rules.specs.Stretches.{spansOf, spansSaid, width}
 use Rattle.rules.specs.declared.numbers.Numbers.{Numbers}
 use Rattle.rules.proofs.Truths.{no-truth}
-use Rattle.monitor.specs.declared.stretch.Updated.{Updated}
-use Rattle.monitor.specs.Layout.{wordsOf, packed, spansHeld, Packed, stretchIn}
-use Rattle.monitor.specs.Stretch.{covered, UpdatedIn}
+use Rattle.spans.specs.declared.stretch.Updated.{Updated}
+use Rattle.spans.specs.Layout.{wordsOf, packed, spansHeld, Packed}
+use Rattle.spans.specs.Stretch.{covered}
 use Rattle.monitor.specs.Record.{truthAt, heldAt, stretchAt}
 use Rattle.monitor.specs.Event.{Moment, spansBy, spansAfter, truthBy, truthOf}
-use Rattle.monitor.specs.Core.{RowReady, RowJudged}
+use Rattle.monitor.specs.Core.{stretchIn, UpdatedIn, RowReady, RowJudged}
 use Rattle.monitor.proofs.RuleLaws.{owned-rule}
 use Rattle.monitor.proofs.SoundnessLaws.{part-told}
 

@@ -18,9 +18,8 @@ use Rattle.rules.specs.Stretches.{spansOf, width, offset}
 use Rattle.rules.specs.declared.numbers.Numbers.{Numbers}
 use Rattle.rules.proofs.Truths.{and-false, and-left, and-right}
 use Rattle.rules.proofs.StretchesLaws.{stretch-before}
+use Rattle.spans.specs.StretchSound.{soundStretch?}
 use Rattle.monitor.specs.declared.record.Record.{Record}
-use Rattle.monitor.specs.Layout.{wordOf}
-use Rattle.monitor.specs.StretchSound.{soundStretch?}
 use Rattle.monitor.specs.Record.{timeLimit, truthAt, heldAt, stretchAt}
 use Rattle.monitor.specs.Soundness.{every, soundEntry?, soundRow?, sound?}
 use Rattle.monitor.proofs.ReadyLaws.{Ready}
@@ -102,7 +101,7 @@ pub row-told :
     → words ≡ width numbers
     → answer
     ≡ soundStretch? (take (from + words - from) (drop from store)) (heldAt found row) (found .time) (found .time + numbers .a)
-    (wordOf (found .time +End endOf (numbers .b))) (lengthOf (numbers .a) (endOf (numbers .b)))
+    (found .time +End endOf (numbers .b)) (lengthOf (numbers .a) (endOf (numbers .b)))
     → answer ≡ soundRow? table store found row
 unfolding soundRow?
 row-told table store found row read place size told = rw (told, part-told table store row read place size, read)

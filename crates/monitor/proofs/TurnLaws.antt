@@ -3,7 +3,7 @@
 use mathlib.Core.Bool.{Bool}
 use mathlib.Core.List.{List, append-assoc}
 use mathlib.Core.Path.{_≡_, refl, sym, ap, _∙_}
-use Prim.Native.Nat.{ℕ, zero, suc, _+_, _-_, _≤_, _<_}
+use Prim.Native.Nat.{ℕ, zero, suc, _+_, _≤_, _<_}
 use native.Mathlib.Numerals.{add-one}
 use native.Mathlib.Omega.{arith}
 use lib.ListN.{length, take, drop, set, length-append, length-drop}
@@ -15,13 +15,13 @@ use Rattle.rules.specs.Rows.{rowsOf, numbersAt, ruleOf}
 use Rattle.rules.specs.Stretches.{width, offset}
 use Rattle.rules.specs.declared.numbers.Numbers.{Numbers}
 use Rattle.rules.proofs.PassedLaws.{width-most}
+use Rattle.spans.specs.Layout.{packed}
+use Rattle.spans.proofs.LayoutLaws.{length-packed}
 use Rattle.monitor.specs.declared.record.Record.{Record}
 use Rattle.monitor.specs.declared.event.Judgement.{Judgement}
-use Rattle.monitor.specs.Layout.{packed}
 use Rattle.monitor.specs.Record.{stretchAt, spansFound}
 use Rattle.monitor.specs.Event.{Moment, spansBy, spansAfter, truthBy, truthOf, truthsAfter, spansNow, countsAfter, wordsDone, storeAfter}
 use Rattle.monitor.specs.Core.{moment, AfterRows, RowReady, RowJudged}
-use Rattle.monitor.proofs.LayoutLaws.{length-packed}
 use Rattle.monitor.proofs.RuleLaws.{good-listed}
 use Rattle.monitor.proofs.AcceptedLaws.{Accepted, row-inside, row-laid, row-enough}
 

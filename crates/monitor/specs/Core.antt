@@ -1,18 +1,21 @@
 -- What the private functions of src/event and src/step ask and leave. No public contract cites this file.
 use mathlib.Core.Bool.{Bool, cond}
-use mathlib.Core.List.{List}
+use mathlib.Core.List.{List, _++_}
 use mathlib.Core.Path.{_≡_}
-use Prim.Native.Nat.{ℕ, _+_, _*_, _^_, _≤_, _<_}
-use lib.ListN.{length}
+use Prim.Native.Nat.{ℕ, _+_, _*_, _-_, _^_, _≤_, _<_}
+use lib.ListN.{length, take, drop}
+use Rattle.meaning.specs.Spans.{Span}
 use Rattle.rules.specs.Limits.{rowLimit}
 use Rattle.rules.specs.Rows.{numbersAt}
 use Rattle.rules.specs.Stretches.{spansOf, width, offset}
 use Rattle.rules.specs.Refusals.{refused}
 use Rattle.rules.specs.Table.{Said, passed, refusedBy}
 use Rattle.rules.specs.declared.refusal.Refusal.the-variants as Refusal
+use Rattle.spans.specs.declared.stretch.Updated.{Updated}
+use Rattle.spans.specs.Layout.{packed, Packed}
+use Rattle.spans.specs.Stretch.{covered}
 use Rattle.monitor.specs.declared.record.Record.{Record}
 use Rattle.monitor.specs.declared.event.Judgement.{Judgement}
-use Rattle.monitor.specs.Layout.{packed, Packed, withStretch}
 use Rattle.monitor.specs.Record.{timeLimit, heldAt, stretchAt}
 use Rattle.monitor.specs.Soundness.{sound?}
 use Rattle.monitor.specs.Ready.{readyOf}
@@ -30,13 +33,28 @@ fitOf table store found = withSound (sound? table store found) (readyOf table (l
 abbrev pub moment : (table store : List ℕ) → Record → (time mask : ℕ) → Moment
 moment table store found time mask = record { table = table; store = store; found = found; time = time; mask = mask }
 
+-- "each since row owns its own stretch in the middle of the store": the words of a stretch, and the store with other words in their place.
+abbrev pub stretchIn : (from end : ℕ) → List ℕ → List ℕ
+stretchIn from end store = take (end - from) (drop from store)
+
+abbrev pub withStretch : (from end : ℕ) → List ℕ → List ℕ → List ℕ
+withStretch from end store words = take from store ++ (words ++ drop end store)
+
+-- After an update of a stretch of a store: its words are those of S and no other word changed; the answer tells how many spans S has and whether the
+-- time lies in one.
+pub record UpdatedIn (from end : ℕ) (store after : List ℕ) (updated : Updated) (time : ℕ) (S : List Span) : Type 0 where
+  pub written : after ≡ withStretch from end store (packed (end - from) S)
+  pub counted : updated .held .count ≡ length S
+  pub told : updated .covered ≡ covered time S
+
 -- The arrays and the store after the rows below n.
 pub record AfterRows (m : Moment) (n : ℕ) (truths : List Bool) (counts store : List ℕ) : Type 0 where
   pub truths-are : truths ≡ truthsAfter m n
   pub counts-are : counts ≡ countsAfter m n
   pub store-is : store ≡ storeAfter m n
 
--- A row can be judged: it and the rows that it names have their place in the arrays, its stretch begins at a word and lies within the store, its spans are laid out there, and those after the event have room.
+-- A row can be judged: it and the rows that it names have their place in the arrays, its stretch begins at a word and lies within the store, its
+-- spans are laid out there, and those after the event have room.
 pub record RowReady (m : Moment) (row from : ℕ) (truths : List Bool) : Type 0 where
   pub listed : row < rowLimit
   pub x-listed : numbersAt (m .table) row .x < rowLimit

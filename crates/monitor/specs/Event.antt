@@ -11,9 +11,9 @@ use Rattle.rules.specs.Kinds.{truth, bit, negation, both, either, previous, Rul
 use Rattle.rules.specs.Rows.{rowsOf, numbersAt, ruleOf, named}
 use Rattle.rules.specs.Stretches.{width, offset}
 use Rattle.rules.specs.declared.numbers.Numbers.{Numbers}
+use Rattle.spans.specs.Layout.{packed}
+use Rattle.spans.specs.Stretch.{covered}
 use Rattle.monitor.specs.declared.record.Record.{Record}
-use Rattle.monitor.specs.Layout.{packed}
-use Rattle.monitor.specs.Stretch.{covered}
 use Rattle.monitor.specs.Record.{truthAt, spansFound}
 
 -- An event, and what it meets: the table, the store and the record as they were found.

@@ -1,7 +1,4 @@
 -- What a reader must believe of the monitor, in the order in which to read it.
-pub mod Layout
-pub mod Stretch
-pub mod StretchSound
 pub mod Record
 pub mod Soundness
 pub mod Ready

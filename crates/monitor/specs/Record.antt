@@ -7,9 +7,9 @@ use Rattle.meaning.specs.Spans.{Span}
 use Rattle.rules.specs.Limits.{rowLimit}
 use Rattle.rules.specs.Rows.{numbersAt}
 use Rattle.rules.specs.Stretches.{width, offset}
+use Rattle.spans.specs.declared.stretch.Held.{Held}
+use Rattle.spans.specs.Layout.{spansHeld}
 use Rattle.monitor.specs.declared.record.Record.{Record}
-use Rattle.monitor.specs.declared.stretch.Held.{Held}
-use Rattle.monitor.specs.Layout.{spansHeld}
 
 -- "281,474,976,710,655": no accepted time is over this.
 abbrev pub timeLimit : ℕ

@@ -10,9 +10,8 @@ use Rattle.rules.specs.Limits.{rowLimit}
 use Rattle.rules.specs.Rows.{rowsOf, numbersAt}
 use Rattle.rules.specs.Stretches.{spansOf}
 use Rattle.rules.specs.declared.numbers.Numbers.{Numbers}
+use Rattle.spans.specs.StretchSound.{soundStretch?}
 use Rattle.monitor.specs.declared.record.Record.{Record}
-use Rattle.monitor.specs.Layout.{wordOf}
-use Rattle.monitor.specs.StretchSound.{soundStretch?}
 use Rattle.monitor.specs.Record.{timeLimit, truthAt, heldAt, stretchAt}
 
 -- Every row below n passes.
@@ -32,7 +31,7 @@ soundEntry? table found row =
 abbrev pub soundLimits? : List ℕ → Record → ℕ → Numbers → Bool
 soundLimits? words found row numbers =
     soundStretch? words (heldAt found row) (found .time) (found .time + numbers .a)
-    (wordOf (found .time +End endOf (numbers .b))) (lengthOf (numbers .a) (endOf (numbers .b)))
+    (found .time +End endOf (numbers .b)) (lengthOf (numbers .a) (endOf (numbers .b)))
 
 unfoldable pub soundRow? : List ℕ → List ℕ → Record → ℕ → Bool
 soundRow? table store found row = soundLimits? (stretchAt table store row) found row (numbersAt table row)

@@ -6,14 +6,14 @@ use crate::reach::wide;
 use crate::reach::within;
 use crate::record::Record;
 use crate::record::truth_at;
-use crate::stretch::Held;
-use crate::stretch::Updated;
-use crate::stretch::update_in;
 use rules::limits::MASK_BITS;
 use rules::limits::ROW_LIMIT;
 use rules::numbers::Numbers;
 use rules::numbers::numbers_at;
 use rules::stretch;
+use spans::stretch::Held;
+use spans::stretch::Updated;
+use spans::stretch::update;
 ghost use mathlib.Core.Bool.{false, not, _&&_, _||_};
 ghost use mathlib.Core.List.{List};
 ghost use mathlib.Core.Option.{none};
@@ -23,16 +23,15 @@ ghost use lib.Dec.{eqb};
 ghost use lib.ListN.{length};
 ghost use Rattle.meaning.specs.Interval.{endOf};
 ghost use Rattle.meaning.specs.Computed.{within?};
-ghost use Rattle.meaning.specs.Spans.{Span, reach, update};
+ghost use Rattle.meaning.specs.Spans.{Span, _to_, reach, update};
 ghost use Rattle.rules.specs.Limits.{rowLimit};
 ghost use Rattle.rules.specs.Kinds.{ownsStretch};
 ghost use Rattle.rules.specs.Rows.{rowsOf, ruleOf};
-ghost use Rattle.monitor.specs.Layout.{spansHeld, Packed, stretchIn};
-ghost use Rattle.monitor.specs.Stretch.{UpdatedIn};
+ghost use Rattle.spans.specs.Layout.{endAt, spansHeld, Packed};
 ghost use Rattle.monitor.specs.Record.{timeLimit, truthAt};
 ghost use Rattle.monitor.specs.Event.{truthBy};
 ghost use Rattle.monitor.specs.Step.{refusalOf, event};
-ghost use Rattle.monitor.specs.Core.{moment, AfterRows, RowReady, RowJudged};
+ghost use Rattle.monitor.specs.Core.{stretchIn, UpdatedIn, moment, AfterRows, RowReady, RowJudged};
 
 // What judging a row gives: its truth, how many spans it holds, and where its stretch ends.
 pub(crate) struct Judgement {
@@ -124,6 +123,26 @@ fn judge_since(
     let first = time + wide(numbers.a);
     let last = last_reached(time, numbers.b);
     update_in(store, from, end, held, keep, feed, time, first, last)
+}
+
+// The stretch from word `from` to word `end` of the store is lent on as a mutable part; its other words stay.
+fn update_in(
+    store: &mut [u64],
+    from: usize,
+    end: usize,
+    held: Held,
+    keep: bool,
+    feed: bool,
+    time: u64,
+    first: u64,
+    last: u64,
+) -> Updated
+    requires { ⌜ (from ≤ end) × (end ≤ length (now store)) ⌝ }
+    requires { ⌜ Packed (stretchIn from end (now store)) held ⌝ }
+    requires { ⌜ 2 * length (update keep feed time (first to endAt last) (spansHeld (stretchIn from end (now store)) held)) ≤ end - from ⌝ }
+    ensures { λ r. ⌜ UpdatedIn from end (now (store .entry)) (now (store .exit)) r time (update keep feed time (first to endAt last) (spansHeld (stretchIn from end (now (store .entry))) held)) ⌝ }
+{
+    update(&mut store[from..end], held, keep, feed, time, first, last)
 }
 
 // A row without a stretch, by its kind.

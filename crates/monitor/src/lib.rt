@@ -1,5 +1,4 @@
-// The monitor: start, one event or frame with the record handed in and back, the time of a frame. Spans, soundness and the rows of an event are
-// private.
+// The monitor: start, one event or frame with the record handed in and back, the time of a frame. Soundness and the rows of an event are private.
 
 pub mod answer;
 mod event;
@@ -10,6 +9,3 @@ pub mod record;
 mod soundness;
 pub mod start;
 pub mod step;
-mod stretch;
-mod stretch_sound;
-mod words;

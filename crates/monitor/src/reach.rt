@@ -1,24 +1,24 @@
 // What a row's limits a and b say of times. No sum here can wrap: a time is at most the limit, or the sum is not made.
 
-use crate::stretch::NO_END;
-use crate::words::past_by;
 use rules::limits;
+use spans::stretch::MARK;
+use spans::words::past_by;
 ghost use mathlib.Core.Path.{_≡_};
 ghost use Prim.Native.Nat.{_≤_};
 ghost use lib.Dec.{eqb};
 ghost use Rattle.meaning.specs.Interval.{noEndNumber, endOf, _+End_};
 ghost use Rattle.meaning.specs.Computed.{within?, notPast?};
 ghost use Rattle.meaning.specs.Sound.{lengthOf};
+ghost use Rattle.spans.specs.Layout.{endAt};
 ghost use Rattle.monitor.specs.Record.{timeLimit};
-ghost use Rattle.monitor.specs.Layout.{wordOf, endAt};
 
 // The last number that an event at the time reaches, as a word: the mark where there is no end.
 pub(crate) fn last_reached(time: u64, b: u32) -> u64
     requires { ⌜ time ≤ timeLimit ⌝ }
-    ensures { λ r. ⌜ (r ≡ wordOf (time +End endOf b)) × (endAt r ≡ time +End endOf b) ⌝ }
+    ensures { λ r. ⌜ endAt r ≡ time +End endOf b ⌝ }
 {
     if has_no_end(b) {
-        return NO_END;
+        return MARK;
     }
     time + wide(b)
 }

@@ -5,12 +5,12 @@ use crate::reach::last_reached;
 use crate::reach::length_of;
 use crate::reach::wide;
 use crate::record::Record;
-use crate::stretch::Held;
-use crate::stretch_sound::sound;
 use rules::limits::ROW_LIMIT;
 use rules::numbers::Numbers;
 use rules::numbers::numbers_at;
 use rules::stretch;
+use spans::stretch::Held;
+use spans::stretch_sound::sound;
 ghost use mathlib.Core.Bool.{not, _&&_, _||_};
 ghost use mathlib.Core.Option.{none};
 ghost use mathlib.Core.Path.{_≡_};
@@ -21,8 +21,7 @@ ghost use Rattle.meaning.specs.Interval.{endOf, _+End_};
 ghost use Rattle.meaning.specs.Sound.{lengthOf};
 ghost use Rattle.rules.specs.Limits.{rowLimit};
 ghost use Rattle.rules.specs.Rows.{rowsOf};
-ghost use Rattle.monitor.specs.Layout.{wordOf};
-ghost use Rattle.monitor.specs.StretchSound.{soundStretch?};
+ghost use Rattle.spans.specs.StretchSound.{soundStretch?};
 ghost use Rattle.monitor.specs.Record.{timeLimit};
 ghost use Rattle.monitor.specs.Soundness.{every, soundEntry?, soundRow?, sound?};
 ghost use Rattle.monitor.specs.Ready.{readyOf, refusalIn};
@@ -115,7 +114,7 @@ fn sound_stretches(table: &[u32], store: &[u64], rows: usize, found: Record) -> 
 // One stretch, by the limits of its row.
 fn sound_stretch(words: &[u64], count: u32, time: u64, numbers: Numbers) -> bool
     requires { ⌜ time ≤ timeLimit ⌝ }
-    ensures { λ r. ⌜ r ≡ soundStretch? (now (words .entry)) (record { count = count }) time (time + numbers .a) (wordOf (time +End endOf (numbers .b))) (lengthOf (numbers .a) (endOf (numbers .b))) ⌝ }
+    ensures { λ r. ⌜ r ≡ soundStretch? (now (words .entry)) (record { count = count }) time (time + numbers .a) (time +End endOf (numbers .b)) (lengthOf (numbers .a) (endOf (numbers .b))) ⌝ }
 {
     let held = Held {
         count: count as usize,

@@ -4,8 +4,8 @@ use crate::answer::StartAnswer;
 use crate::answer::Started;
 use crate::ready::ready;
 use crate::record::nothing_seen;
-use crate::words::clear_words;
 use rules::table::Checked;
+use spans::words::clear_words;
 ghost use mathlib.Core.Path.{_≡_};
 ghost use Rattle.monitor.specs.Start.{startOf, saidStart};
 
@@ -20,7 +20,7 @@ pub fn start(table: &[u32], store: &mut [u64]) -> Started
             record: nothing_seen(0),
         },
         Checked::Passed { rows, need } => {
-            clear_words(store, 0, need as usize);
+            clear_words(&mut store[0..need as usize]);
             Started {
                 answer: StartAnswer::Good,
                 record: nothing_seen(rows),

@@ -25,7 +25,7 @@ use Rattle.rules.specs.declared.numbers.Numbers.{Numbers}
 use Rattle.rules.proofs.KindsLaws.{PlainNames, Names}
 use Rattle.rules.proofs.PassedLaws.{passed-formula}
 use Rattle.monitor.specs.Record.{timeLimit, truthAt}
-use Rattle.monitor.proofs.CoverLaws.{covered-told}
+use Rattle.spans.proofs.CoverLaws.{covered-told}
 use Rattle.monitor.specs.Event.{Moment, spansBy, spansAfter, truthBy, truthOf, truthsAfter, spansNow, storeAfter, recordAfter}
 use Rattle.promises.specs.Stream.{State}
 use Rattle.promises.specs.Spans.{NamedHolds}

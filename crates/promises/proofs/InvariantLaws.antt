@@ -8,7 +8,7 @@ use Rattle.rules.specs.Rows.{rowsOf, numbersAt, ruleOf}
 use Rattle.rules.specs.Stretches.{needOf}
 use Rattle.rules.proofs.PassedLaws.{InRange, Passed, passed-gives}
 use Rattle.monitor.specs.Record.{timeLimit, spansFound}
-use Rattle.monitor.proofs.LayoutLaws.{laid-read}
+use Rattle.spans.proofs.LayoutLaws.{laid-read}
 use Rattle.promises.specs.Stream.{State}
 use Rattle.promises.specs.Invariant.{Invariant}
 use Rattle.promises.proofs.TableRefusals.{table-passes}

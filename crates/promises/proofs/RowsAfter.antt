@@ -10,10 +10,10 @@ use lib.ListN.{length, getD, take, drop, set, length-append, length-drop, length
 use lib.Seq.{getD-set-same, getD-set-other, take-at, drop-at}
 use Rattle.rules.specs.Rows.{rowsOf, numbersAt}
 use Rattle.rules.specs.Stretches.{width, offset}
-use Rattle.monitor.specs.Layout.{packed, Laid}
+use Rattle.spans.specs.Layout.{packed, Laid}
 use Rattle.monitor.specs.Record.{truthAt, heldAt, stretchAt}
 use Rattle.monitor.specs.Event.{Moment, truthOf, truthsAfter, spansNow, countsAfter, wordsDone, storeAfter, recordAfter}
-use Rattle.monitor.proofs.LayoutLaws.{length-packed}
+use Rattle.spans.proofs.LayoutLaws.{length-packed}
 
 -- Lists that are made by setting the entry of each row in turn.
 module _ {A : Type 0} (made : ℕ → List A) (entry : ℕ → A) (next : (n : ℕ) → made (suc n) ≡ set (made n) n (entry n)) where

@@ -13,14 +13,13 @@ use Rattle.rules.specs.Rows.{rowsOf, numbersAt, ruleOf, named}
 use Rattle.rules.specs.Stretches.{spansSaid, spansOf}
 use Rattle.rules.specs.declared.numbers.Numbers.{Numbers}
 use Rattle.rules.proofs.PassedLaws.{InRange}
-use Rattle.monitor.specs.Layout.{wordOf}
 use Rattle.monitor.specs.Record.{truthAt, spansFound}
 use Rattle.monitor.specs.Event.{Moment, spansBy, spansAfter, truthsAfter, spansNow}
-use Rattle.monitor.proofs.LayoutLaws.{laid-read}
-use Rattle.monitor.proofs.SoundTold.{sound-stored}
-use Rattle.monitor.proofs.SoundKept.{sound-kept}
+use Rattle.spans.proofs.LayoutLaws.{laid-read}
+use Rattle.spans.proofs.SoundTold.{sound-stored}
+use Rattle.meaning.proofs.SoundKept.{sound-kept}
 use Rattle.promises.specs.Conditions.{Ready, StretchRight, RecordRight}
-use Rattle.promises.proofs.RangeLaws.{range-order, latest-word, latest-most}
+use Rattle.promises.proofs.RangeLaws.{range-order, latest-storable}
 use Rattle.promises.proofs.RowsAfter.{Room}
 use Rattle.promises.proofs.StretchTold.{in-range-of, none-sound}
 use Rattle.promises.proofs.RecordTold.{all-stretches}
@@ -50,9 +49,8 @@ module _
     found-sound =
         let now = m .found .time in
         let kept : StretchRight (m .table) (m .store) (m .found) row = all-stretches (m .table) (m .store) ready (m .found) right row lower in
-        let stored = sound-stored now (now + n .a) (wordOf (now +End endOf (n .b))) (lengthOf (n .a) (endOf (n .b))) (kept .spans)
-        (latest-most now (n .a) (n .b) (right .limit) range)
-        (rw (latest-word now (n .a) (n .b) (right .limit) range) (kept .sound))
+        let stored = sound-stored now (now + n .a) (now +End endOf (n .b)) (lengthOf (n .a) (endOf (n .b))) (kept .spans)
+        (latest-storable now (n .a) (n .b) (right .limit) range) (kept .sound)
         in
         rw (laid-read (kept .laid) stored) (kept .sound)
 

@@ -16,13 +16,12 @@ use Rattle.rules.specs.Kinds.{Rule, plain, stretch}
 use Rattle.rules.specs.Rows.{numbersAt}
 use Rattle.rules.specs.Stretches.{spansSaid}
 use Rattle.rules.proofs.PassedLaws.{InRange}
-use Rattle.monitor.specs.Layout.{wordOf}
 use Rattle.monitor.specs.Record.{timeLimit}
-use Rattle.monitor.proofs.LayoutLaws.{Stored}
-use Rattle.monitor.proofs.SoundTold.{sound-stored}
+use Rattle.spans.proofs.LayoutLaws.{Stored}
+use Rattle.spans.proofs.SoundTold.{sound-stored}
 use Rattle.promises.specs.Spans.{NamedHolds}
 use Rattle.promises.specs.Invariant.{Spanned}
-use Rattle.promises.proofs.RangeLaws.{range-order, latest-word, latest-most}
+use Rattle.promises.proofs.RangeLaws.{range-order, latest-storable}
 use Rattle.promises.proofs.StretchTold.{none-sound}
 use Rattle.promises.proofs.SoundAfter.{RowSound}
 
@@ -60,8 +59,7 @@ module _ (table : List ℕ) (row : ℕ) (h : History) (clock : ℕ) where
   spanned-stored within range S sound =
       let a = numbersAt table row .a in
       let b = numbersAt table row .b in
-      sound-stored clock (clock + a) (wordOf (clock +End endOf b)) (lengthOf a (endOf b)) S (latest-most clock a b within range)
-      (rw (latest-word clock a b within range) sound)
+      sound-stored clock (clock + a) (clock +End endOf b) (lengthOf a (endOf b)) S (latest-storable clock a b within range) sound
 
 pub spanned-none : (table : List ℕ) (row clock : ℕ) (rule : Rule) (S : List Span) → Spanned table row [] clock rule S → S ≡ []
 spanned-none table row clock (plain says) S spanned = spanned

@@ -15,7 +15,7 @@ use Rattle.rules.specs.Kinds.{Rule, plain, stretch}
 use Rattle.rules.specs.Rows.{rowsOf, numbersAt, ruleOf}
 use Rattle.rules.specs.Stretches.{width, offset, needOf}
 use Rattle.rules.proofs.StretchesLaws.{stretch-before}
-use Rattle.monitor.specs.Layout.{wordsOf, packed, Laid}
+use Rattle.spans.specs.Layout.{wordsOf, packed, Laid}
 use Rattle.monitor.specs.Record.{heldAt, stretchAt, nothingSeen}
 use Rattle.monitor.specs.Start.{startOf}
 use Rattle.promises.specs.Stream.{State, Starts, started}

@@ -17,12 +17,12 @@ use Rattle.rules.specs.declared.numbers.Numbers.{Numbers}
 use Rattle.rules.proofs.PassedLaws.{InRange}
 use Rattle.rules.proofs.StretchesLaws.{stretch-before}
 use Rattle.monitor.specs.declared.record.Record.{Record}
-use Rattle.monitor.specs.Layout.{wordOf, endAt, wordsOf, packed}
+use Rattle.spans.specs.Layout.{wordsOf, packed}
 use Rattle.monitor.specs.Record.{timeLimit, heldAt, stretchAt}
 use Rattle.monitor.specs.Soundness.{soundRow?}
-use Rattle.monitor.proofs.SoundTold.{stretch-told}
+use Rattle.spans.proofs.SoundTold.{stretch-told}
 use Rattle.promises.specs.Conditions.{LimitsRight, Ready, IsSince, StretchRight}
-use Rattle.promises.proofs.RangeLaws.{latest-word, latest-most}
+use Rattle.promises.proofs.RangeLaws.{latest-storable}
 
 -- "each since row owns its own stretch", and no other row.
 pub since-or-other : (n : Numbers) → IsSince n ⊎ (¬ IsSince n)
@@ -71,13 +71,12 @@ module _ (table store : List ℕ) (ready : Ready table (length store)) (found : 
       let n = numbersAt table row in
       let now = found .time in
       let range : InRange (n .a) (n .b) = in-range-of (ready .right .rows row lower .1) in
-      let latest : endAt (wordOf (now +End endOf (n .b))) ≡ now +End endOf (n .b) = latest-word now (n .a) (n .b) early range in
       let size : length (stretchAt table store row) ≡ width n = stretch-length row lower in
       tells-same
-      (λ stretch. record { spans = stretch .spans; laid = rw (← size) (stretch .laid); sound = rw (← latest) (stretch .sound) })
-      (λ stretch. record { spans = stretch .spans; laid = rw size (stretch .laid); sound = rw latest (stretch .sound) })
-      (stretch-told (stretchAt table store row) (heldAt found row) now (now + n .a) (wordOf (now +End endOf (n .b)))
-      (lengthOf (n .a) (endOf (n .b))) (latest-most now (n .a) (n .b) early range))
+      (λ stretch. record { spans = stretch .spans; laid = rw (← size) (stretch .laid); sound = stretch .sound })
+      (λ stretch. record { spans = stretch .spans; laid = rw size (stretch .laid); sound = stretch .sound })
+      (stretch-told (stretchAt table store row) (heldAt found row) now (now + n .a) (now +End endOf (n .b))
+      (lengthOf (n .a) (endOf (n .b))) (latest-storable now (n .a) (n .b) early range))
 
   pub other-stretch : (row : ℕ) → ¬ IsSince (numbersAt table row) → getD (found .counts) row 0 ≡ 0 → StretchRight table store found row
   unfolding stretchAt packed wordsOf

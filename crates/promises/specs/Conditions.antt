@@ -14,7 +14,7 @@ use Rattle.rules.specs.Rows.{rowsOf, numbersAt}
 use Rattle.rules.specs.Stretches.{width, needOf}
 use Rattle.rules.specs.declared.numbers.Numbers.{Numbers}
 use Rattle.monitor.specs.declared.record.Record.{Record}
-use Rattle.monitor.specs.Layout.{Laid}
+use Rattle.spans.specs.Layout.{Laid}
 use Rattle.monitor.specs.Record.{timeLimit, truthAt, heldAt, stretchAt}
 
 -- 1: "table length not a multiple of 5, or rows not 1 to 64" is that this fails.

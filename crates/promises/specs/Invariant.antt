@@ -15,7 +15,7 @@ use Rattle.rules.specs.Kinds.{Rule, plain, stretch}
 use Rattle.rules.specs.Rows.{rowsOf, numbersAt, ruleOf}
 use Rattle.rules.specs.Stretches.{width}
 use Rattle.rules.specs.RowFormula.{formulaOf}
-use Rattle.monitor.specs.Layout.{Laid}
+use Rattle.spans.specs.Layout.{Laid}
 use Rattle.monitor.specs.Record.{truthAt, heldAt, stretchAt}
 use Rattle.promises.specs.Stream.{State}
 use Rattle.promises.specs.Conditions.{Ready, RecordRight}

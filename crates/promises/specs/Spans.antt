@@ -14,7 +14,7 @@ use Rattle.rules.specs.Kinds.{Source, stretch}
 use Rattle.rules.specs.Rows.{rowsOf, numbersAt, ruleOf, named}
 use Rattle.rules.specs.Stretches.{width}
 use Rattle.rules.specs.RowFormula.{formulaOf}
-use Rattle.monitor.specs.Layout.{Laid}
+use Rattle.spans.specs.Layout.{Laid}
 use Rattle.monitor.specs.Record.{truthAt, heldAt, stretchAt}
 use Rattle.monitor.specs.Step.{Call}
 use Rattle.promises.specs.Stream.{State, Starts, state, history, clock}

@@ -14,9 +14,9 @@ use Rattle.meaning.specs.Interval.{endOf}
 use Rattle.meaning.specs.Figure.{figure}
 use Rattle.meaning.specs.FrameTime.{frameTime}
 use Rattle.meaning.specs.Spans.{clip, join, update}
-use Rattle.monitor.specs.Layout.{endAt, spansFrom, wordsOf, packed}
-use Rattle.monitor.specs.Stretch.{covered}
-use Rattle.monitor.specs.StretchSound.{soundSpan?, soundFrom?, soundEndless?, soundSpans?, zeros?, soundStretch?}
+use Rattle.spans.specs.Layout.{endAt, spansFrom, wordsOf, packed, zeros?}
+use Rattle.spans.specs.Stretch.{covered}
+use Rattle.spans.specs.StretchSound.{soundSpan?, soundFrom?, soundEndless?, soundSpans?, soundStretch?}
 use Rattle.monitor.specs.Record.{stretchAt, nothingSeen}
 use Rattle.monitor.specs.Soundness.{every, soundEntry?, soundRow?, sound?}
 use Rattle.monitor.specs.Ready.{readyOf}

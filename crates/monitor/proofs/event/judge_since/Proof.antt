@@ -15,7 +15,7 @@ last-reached-requires c κs = search needs
 update-in-requires : tie.Need-update-in-requires
 update-in-requires c κs =
     let start = c .before .before .before .before in
-    ((start .pre .0 .0, start .pre .0 .1), (start .pre .1 .0, rw (c .before .last-reached .ensures .1, c .before .before .wide .ensures) (start .pre .1 .1)))
+    ((start .pre .0 .0, start .pre .0 .1), (start .pre .1 .0, rw (c .before .last-reached .ensures, c .before .before .wide .ensures) (start .pre .1 .1)))
 
 same-length : tie.Need-same-length
 same-length c = search needs
@@ -24,7 +24,7 @@ returns : tie.Need-returns
 returns c =
     let d = c .before .before in
     let e = d .before .before in
-    rw (← (e .last-reached .ensures .1), ← (e .before .wide .ensures)) (d .update-in .ensures)
+    rw (← (e .last-reached .ensures), ← (e .before .wide .ensures)) (d .update-in .ensures)
 
 pub judge-since-spec : {M : Type 1} → statement M
 judge-since-spec =

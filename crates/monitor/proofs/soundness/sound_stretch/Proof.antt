@@ -23,7 +23,7 @@ returns c =
     rw (
       c .sound .ensures,
       c .before .length-of .ensures,
-      c .before .before .last-reached .ensures .0,
+      c .before .before .last-reached .ensures,
       c .before .before .before .wide .ensures,
     )
 

@@ -1,0 +1,52 @@
+-- `monitor::event::update_in` meets its contract: what `update` leaves of a packed part that has room (`update-laid`), said of the store (`post-is`). Assumes nothing.
+use mathlib.Core.Path.{_≡_}
+use Prim.Native.Nat.{_*_, _-_, _≤_}
+use borrow.Author.Needs.{needs}
+use lib.ListN.{length}
+use borrow.Rule.Slice.PartMut.{mid-len, post-is}
+use Rattle.meaning.specs.Spans.{_to_, update}
+use Rattle.spans.specs.Layout.{endAt, spansHeld}
+use Rattle.spans.proofs.UpdateLaws.{update-laid, update-told}
+use Rattle.monitor.specs.Core.{stretchIn}
+use Rattle.monitor.proofs.event.update_in.Statement.{statement}
+use Rattle.monitor.proofs.event.update_in.Tie as tie
+
+mul-update : tie.Need-mul-update
+mul-update c = search needs
+
+sub-update : tie.Need-sub-update
+sub-update c = search needs
+
+part-update-start : tie.Need-part-update-start
+part-update-start c = search needs
+
+part-update-end : tie.Need-part-update-end
+part-update-end c = search needs
+
+update-requires : tie.Need-update-requires
+update-requires c κs = search needs
+
+same-length : tie.Need-same-length
+same-length c = search needs
+
+returns : tie.Need-returns
+returns c =
+    let start = c .before .before .before .before .before in
+    let args = start .args in
+    let part = stretchIn (args .from) (args .end) (args .store .now) in
+    let span = args .first to endAt (args .last) in
+    let size : length part ≡ args .end - args .from = mid-len (args .from) (args .end) (args .store .now) (start .pre .0 .1) in
+    let room : 2 * length (update (args .keep) (args .feed) (args .time) span (spansHeld part (args .held))) ≤ length part =
+    rw size (start .pre .1 .1)
+    in
+    let done = c .before .before .update .ensures in
+    let laid = update-laid (args .keep) (args .feed) (args .time) span (start .pre .1 .0) room done in
+    record {
+      written = rw (post-is (args .from) (args .end) (args .store .now) (start .pre .0 .0), laid .written, size);
+      counted = laid .counted;
+      told = update-told (args .keep) (args .feed) (args .time) span (start .pre .1 .0) room done;
+    }
+
+pub update-in-spec : {M : Type 1} → statement M
+update-in-spec =
+    tie.close (tie.spec mul-update sub-update part-update-start part-update-end update-requires same-length returns)

@@ -1,0 +1,18 @@
+-- Any two outcomes that the contract of a public function allows are the same. `past_by`, `clear_words` and `sound` say all by one equation each.
+use mathlib.Core.List.{List}
+use mathlib.Core.Path.{_≡_, sym, _∙_}
+use Prim.Native.Nat.{ℕ}
+use Rattle.meaning.specs.Spans.{Span}
+use Rattle.spans.specs.declared.stretch.Held.{Held}
+use Rattle.spans.specs.declared.stretch.Updated.{Updated}
+use Rattle.spans.specs.Stretch.{UpdatedTo}
+
+-- `spans::stretch::update`: the answer, and every word of what was lent.
+pub one-update : (words : List ℕ) (held : Held) (time : ℕ) (S : List Span) (updated updated′ : Updated) (after after′ : List ℕ)
+    → UpdatedTo words held after updated time S
+    → UpdatedTo words held after′ updated′ time S
+    → (updated ≡ updated′) × (after ≡ after′)
+one-update words held time S updated updated′ after after′ h h′ =
+    let same-count : updated .held .count ≡ updated′ .held .count = h .counted ∙ sym (h′ .counted) in
+    let same-told : updated .covered ≡ updated′ .covered = h .told ∙ sym (h′ .told) in
+    (λ i. record { held = record { count = same-count i }; covered = same-told i }, h .written ∙ sym (h′ .written))

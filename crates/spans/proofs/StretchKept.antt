@@ -1,0 +1,36 @@
+-- A sound stretch, in words: it is ready for an update at any later time. Room is the figure's.
+use mathlib.Core.Bool.{Bool}
+use mathlib.Core.List.{List}
+use mathlib.Core.Path.{_≡_}
+use Prim.Native.Nat.{ℕ, _*_, _≤_}
+use native.Mathlib.Omega.{arith}
+use lib.ListN.{length}
+use Rattle.meaning.specs.Interval.{End, _≤End_, _+End_}
+use Rattle.meaning.specs.Spans.{reach, update}
+use Rattle.meaning.specs.Sound.{lengthOf}
+use Rattle.meaning.specs.Figure.{figure}
+use Rattle.meaning.proofs.SoundKept.{update-fits}
+use Rattle.spans.specs.declared.stretch.Held.{Held}
+use Rattle.spans.specs.Layout.{spansHeld, Packed}
+use Rattle.spans.proofs.LayoutLaws.{Storable, laid-read}
+use Rattle.spans.proofs.SoundTold.{SoundStretch, sound-stored}
+
+-- A stretch with the limits a and b, sound at `now`, and an event at t.
+module _
+    (now t event a latestFirst : ℕ)
+    (b : End)
+    (words : List ℕ)
+    (held : Held)
+    (storable : Storable (event +End b))
+    (sound : SoundStretch words held now latestFirst (event +End b) (lengthOf a b))
+  where
+    read : spansHeld words held ≡ sound .spans
+    read = laid-read (sound .laid) (sound-stored now latestFirst (event +End b) (lengthOf a b) (sound .spans) storable (sound .sound))
+
+    pub sound-packed : Packed words held
+    sound-packed = rw read (sound .laid)
+
+    pub sound-ready : (keep feed : Bool) → a ≤End b → now ≤ t → event ≤ t → 2 * figure a b ≤ length words
+        → 2 * length (update keep feed t (reach t a b) (spansHeld words held)) ≤ length words
+    sound-ready keep feed order present seen size =
+        omega (arith, update-fits keep feed now t event a latestFirst b (spansHeld words held) order present seen (rw read (sound .sound)))

@@ -1,0 +1,158 @@
+-- Laws of one event's update: what it leaves can be stored, so that it is read back as it was written; and of a packed stretch with room for all
+-- spans, it leaves a packed one.
+use mathlib.Core.Bool.{Bool, true, false, cond}
+use mathlib.Core.List.{List, [], _∷_}
+use mathlib.Core.Path.{_≡_, sym, ap, _∙_}
+use Prim.Native.Nat.{ℕ, _*_, _/_, _≤_}
+use native.Mathlib.Omega.{arith}
+use lib.ListN.{length, length-take}
+use Rattle.meaning.specs.Spans.{Span, _to_, touches, extended, clip, join, update}
+use Rattle.spans.specs.declared.stretch.Held.{Held}
+use Rattle.spans.specs.declared.stretch.Updated.{Updated}
+use Rattle.spans.specs.Layout.{endAt, spansHeld, Laid, Packed, fitting, over, freed}
+use Rattle.spans.specs.Stretch.{covered, spansIn, spansUpdated, Written, UpdatedTo}
+use Rattle.spans.proofs.LayoutLaws.{
+  Stored,
+  word-back,
+  spans-stored,
+  take-stored,
+  laid-fits,
+  held-written,
+  written-read,
+  written-room,
+  over-again,
+  over-packed,
+  length-freed,
+  fitting-all,
+  fit-held,
+}
+use Rattle.spans.proofs.ClipLaws.{clip-stored}
+use Rattle.spans.proofs.JoinLaws.{join-stored}
+
+kept-stored : (keep : Bool) (time : ℕ) (S : List Span) → Stored S → Stored (cond keep (clip time S) [])
+unfolding Stored
+kept-stored true time S h = clip-stored time S h
+kept-stored false time S h = tt
+
+update-stored : (keep feed : Bool) (time first last : ℕ) (S : List Span) → Stored S
+    → Stored (update keep feed time (first to endAt last) S)
+unfolding update
+update-stored keep true time first last S h =
+    join-stored first (endAt last) (cond keep (clip time S) []) (ap endAt (word-back last)) (kept-stored keep time S h)
+update-stored keep false time first last S h = kept-stored keep time S h
+
+-- A join makes no list shorter, so the words of the spans kept are written over.
+join-grows : (s : Span) (S : List Span) → length S ≤ length (join s S)
+unfolding join
+join-grows s [] = omega arith
+join-grows s (p ∷ []) = go (touches p s)
+  where
+    go : (b : Bool) → 1 ≤ length (cond b (extended p s ∷ []) (p ∷ s ∷ []))
+    go true = omega arith
+    go false = omega arith
+join-grows s (p ∷ q ∷ S) = omega (arith, join-grows s (q ∷ S))
+
+fed-grows : (feed : Bool) (s : Span) (K : List Span) (words : List ℕ) → 2 * length K ≤ length words
+    → length K ≤ length (fitting words (cond feed (join s K) K))
+fed-grows true s K words room = rw length-take (omega (arith, join-grows s K))
+fed-grows false s K words room = rw length-take (omega arith)
+
+-- The spans found are clipped or dropped, and then the span is joined in or not; what each step writes is read by the next.
+module _
+    (words mid : List ℕ)
+    (found kept : Held)
+    (keep : Bool)
+    (time : ℕ)
+    (room : 2 * found .count ≤ length words)
+    (clipped : Written (freed (found .count) words) mid kept (cond keep (clip time (spansHeld words found)) []))
+    (same : length mid ≡ length words)
+  where
+    abbrev K : List Span
+    K = cond keep (clip time (spansHeld words found)) []
+
+    pub kept-room : 2 * kept .count ≤ length words
+    kept-room =
+        let size : length (freed (found .count) words) ≡ length words = length-freed (found .count) words room in
+        omega (arith, written-room clipped (same ∙ sym size))
+
+    kept-read : spansHeld mid kept ≡ K
+    kept-read = written-read clipped (kept-stored keep time (spansHeld words found) (spans-stored words 0 (found .count)))
+
+    module _
+        {after : List ℕ}
+        {fed : Held}
+        (feed : Bool)
+        (first last : ℕ)
+        (joined :
+        Written mid after fed (fitting mid (cond feed (join (first to endAt last) (spansHeld mid kept)) (spansHeld mid kept))))
+      where
+        abbrev U : List Span
+        U = fitting words (update keep feed time (first to endAt last) (spansHeld words found))
+
+        fed-over : Written mid after fed U
+        unfolding update
+        fed-over = rw (kept-read, same) at joined
+
+        pub fed-room : length after ≡ length mid → 2 * fed .count ≤ length after
+        fed-room kept = omega (arith, written-room fed-over kept)
+
+        fed-longer : length K ≤ length U
+        unfolding update
+        fed-longer =
+            let count : kept .count ≡ length K = clipped .counted in
+            fed-grows feed (first to endAt last) K words (omega (arith, kept-room))
+
+        fed-written : after ≡ over (freed (found .count) words) U
+        fed-written =
+            fed-over .written
+            ∙ ap (λ (l : List ℕ). over l U) (clipped .written)
+            ∙ over-again (freed (found .count) words) K U fed-longer
+
+        pub updated-to : {held : Held} {told : Bool} → spansHeld words found ≡ spansIn words held → told ≡ covered time (spansHeld after fed)
+            → UpdatedTo words held after (record { held = fed; covered = told }) time (spansUpdated words held keep feed time (first to endAt last))
+        updated-to {held} {told} fit answer =
+            let count : found .count ≡ length (spansIn words held) = held-written words found room .counted ∙ ap length fit in
+            let stored : Stored U =
+            take-stored (length words / 2) _ (update-stored keep feed time first last (spansHeld words found) (spans-stored words 0 (found .count)))
+            in
+            record {
+              written = rw (← count, ← fit) fed-written;
+              counted = rw (← fit) (fed-over .counted);
+              told = rw (← fit) (answer ∙ ap (covered time) (written-read fed-over stored));
+            }
+
+-- A packed stretch that has room.
+module _
+    {words after : List ℕ}
+    {held : Held}
+    {updated : Updated}
+    (x y : Bool)
+    (t : ℕ)
+    (s : Span)
+    (laid : Packed words held)
+    (room : 2 * length (update x y t s (spansHeld words held)) ≤ length words)
+    (done : UpdatedTo words held after updated t (spansUpdated words held x y t s))
+  where
+    fits : 2 * held .count ≤ length words
+    fits = laid-fits laid
+
+    found : spansIn words held ≡ spansHeld words held
+    found = fit-held words held fits
+
+    all : spansUpdated words held x y t s ≡ update x y t s (spansHeld words held)
+    all = rw found (fitting-all words (update x y t s (spansHeld words held)) room)
+
+    pub update-laid : Laid (length words) after (updated .held) (update x y t s (spansHeld words held))
+    update-laid =
+        let count = laid .counted in
+        record {
+          written =
+              done .written
+              ∙ rw (all, found)
+              (ap (λ (l : List ℕ). over (freed (length (spansHeld words held)) l) (update x y t s (spansHeld words held))) (laid .written)
+              ∙ over-packed (length words) (spansHeld words held) (update x y t s (spansHeld words held)) (omega (arith, fits)) room);
+          counted = done .counted ∙ ap length all;
+        }
+
+    pub update-told : updated .covered ≡ covered t (update x y t s (spansHeld words held))
+    update-told = done .told ∙ ap (covered t) all

@@ -1,0 +1,41 @@
+-- What the operations on a stretch compute beside document 01's own list operations, which are `clip`, `join` and `update` of crate `meaning`.
+use mathlib.Core.Bool.{Bool, false, cond, _&&_, _||_}
+use mathlib.Core.List.{List, [], _∷_}
+use mathlib.Core.Path.{_≡_}
+use Prim.Native.Nat.{ℕ, suc}
+use lib.Dec.{leb}
+use lib.ListN.{length}
+use Rattle.meaning.specs.Computed.{notPast?}
+use Rattle.meaning.specs.Spans.{Span, _to_, ended, update}
+use Rattle.spans.specs.declared.stretch.Held.{Held}
+use Rattle.spans.specs.declared.stretch.Updated.{Updated}
+use Rattle.spans.specs.Layout.{spansHeld, fitting, over, freed}
+
+-- "The row is true at t exactly when t lies in a span."
+unfoldable pub covered : ℕ → List Span → Bool
+covered now [] = false
+covered now ((first to last) ∷ S) = (leb first now && notPast? now last) || covered now S
+
+-- How many spans a clip drops from the front.
+unfoldable pub endedCount : ℕ → List Span → ℕ
+endedCount now [] = 0
+endedCount now ((first to last) ∷ S) = cond (ended now last) (suc (endedCount now S)) 0
+
+-- The spans found in any words, and those after one event's update of them: as many as have room. In a sound stretch all have.
+abbrev pub spansIn : List ℕ → Held → List Span
+spansIn words held = fitting words (spansHeld words held)
+
+abbrev pub spansUpdated : List ℕ → Held → (x y : Bool) → ℕ → Span → List Span
+spansUpdated words held x y t s = fitting words (update x y t s (spansIn words held))
+
+-- The spans S stand over words, and what is held says so.
+pub record Written (words after : List ℕ) (held : Held) (S : List Span) : Type 0 where
+  pub written : after ≡ over words S
+  pub counted : held .count ≡ length S
+
+-- After an update: the words of the spans found are freed, those of S are written, every later word stays; the answer tells how many spans S has and
+-- whether the time lies in one.
+pub record UpdatedTo (words : List ℕ) (held : Held) (after : List ℕ) (updated : Updated) (time : ℕ) (S : List Span) : Type 0 where
+  pub written : after ≡ over (freed (length (spansIn words held)) words) S
+  pub counted : updated .held .count ≡ length S
+  pub told : updated .covered ≡ covered time S

@@ -1,0 +1,189 @@
+// The spans of one row in its own part of the lent store, its stretch: two words a span, packed rising from the part's start, unused words 0.
+// The part is lent by whoever calls; what else is held of the row is handed in and back. No cost here passes the spans held.
+
+use crate::words::clear_words;
+use crate::words::move_down;
+use crate::words::past_by;
+ghost use mathlib.Core.Bool.{cond, _&&_};
+ghost use mathlib.Core.List.{[], _∷_, _++_};
+ghost use mathlib.Core.Path.{_≡_};
+ghost use Prim.Native.Nat.{_≤_, _*_, max};
+ghost use lib.Dec.{eqb, leb};
+ghost use lib.ListN.{length, getD, set};
+ghost use Rattle.meaning.specs.Spans.{_to_, clip, join};
+ghost use Rattle.spans.specs.Layout.{endAt, spansHeld, spansFrom, fitting, freed};
+ghost use Rattle.spans.specs.Stretch.{covered, endedCount, spansIn, spansUpdated, Written, UpdatedTo};
+
+// The stored last of a span without end.
+pub const MARK: u64 = 18_446_744_073_709_551_615;
+
+// What stands beside a stretch's words: how many spans it holds.
+pub struct Held {
+    pub count: usize,
+}
+
+// What an update answers: what is held now, and whether the time lies in a span.
+pub struct Updated {
+    pub held: Held,
+    pub covered: bool,
+}
+
+// One event: the spans are clipped at its time, or all dropped unless `keep`, and the span from `first` to `last` is joined in if `feed`.
+// Of any words at all; a span that has no room is left out.
+pub fn update(
+    words: &mut [u64],
+    held: Held,
+    keep: bool,
+    feed: bool,
+    time: u64,
+    first: u64,
+    last: u64,
+) -> Updated
+    ensures { λ r. ⌜ UpdatedTo (now (words .entry)) held (now (words .exit)) r time (spansUpdated (now (words .entry)) held keep feed time (first to endAt last)) ⌝ }
+{
+    let found = fit(words, held);
+    let kept = clip_or_clear(words, found, keep, time);
+    let fed = join_or_not(words, kept, feed, first, last);
+    let covered = cover(words, fed, time);
+    Updated { held: fed, covered }
+}
+
+// As many of the spans held as the words have room for.
+fn fit(words: &[u64], held: Held) -> Held
+    ensures { λ r. ⌜ (2 * r .count ≤ length (now (words .entry))) × (spansHeld (now (words .entry)) r ≡ spansIn (now (words .entry)) held) ⌝ }
+{
+    let room = words.len() / 2;
+    if room < held.count {
+        return Held { count: room };
+    }
+    held
+}
+
+fn clip_or_clear(words: &mut [u64], held: Held, keep: bool, time: u64) -> Held
+    requires { ⌜ 2 * held .count ≤ length (now words) ⌝ }
+    ensures { λ r. ⌜ Written (freed (held .count) (now (words .entry))) (now (words .exit)) r (cond keep (clip time (spansHeld (now (words .entry)) held)) []) ⌝ }
+{
+    if keep {
+        return clip(words, held, time);
+    }
+    clear(words, held)
+}
+
+fn join_or_not(words: &mut [u64], held: Held, feed: bool, first: u64, last: u64) -> Held
+    requires { ⌜ 2 * held .count ≤ length (now words) ⌝ }
+    ensures { λ r. ⌜ Written (now (words .entry)) (now (words .exit)) r (fitting (now (words .entry)) (cond feed (join (first to endAt last) (spansHeld (now (words .entry)) held)) (spansHeld (now (words .entry)) held))) ⌝ }
+{
+    if feed {
+        return join(words, held, first, last);
+    }
+    held
+}
+
+// Whether the time lies in a span held.
+fn cover(words: &[u64], held: Held, time: u64) -> bool
+    requires { ⌜ 2 * held .count ≤ length (now words) ⌝ }
+    ensures { λ r. ⌜ r ≡ covered time (spansHeld (now (words .entry)) held) ⌝ }
+{
+    let count = held.count;
+    let mut i = 0;
+    while i < count {
+        if lies_in(words[2 * i], words[2 * i + 1], time) {
+            return true;
+        }
+        i += 1;
+    }
+    false
+}
+
+// The spans are clipped at the time and ended ones dropped: later ones move down, and the words freed become 0.
+fn clip(words: &mut [u64], held: Held, time: u64) -> Held
+    requires { ⌜ 2 * held .count ≤ length (now words) ⌝ }
+    ensures { λ r. ⌜ Written (freed (held .count) (now (words .entry))) (now (words .exit)) r (clip time (spansHeld (now (words .entry)) held)) ⌝ }
+{
+    let count = held.count;
+    let gone = ended(words, count, time);
+    move_down(words, 2 * gone, 2 * count);
+    raise_first(words, count - gone, time);
+    Held {
+        count: count - gone,
+    }
+}
+
+// All spans are dropped.
+fn clear(words: &mut [u64], held: Held) -> Held
+    requires { ⌜ 2 * held .count ≤ length (now words) ⌝ }
+    ensures { λ r. ⌜ Written (freed (held .count) (now (words .entry))) (now (words .exit)) r [] ⌝ }
+{
+    let count = held.count;
+    clear_words(&mut words[0..2 * count]);
+    Held { count: 0 }
+}
+
+// The span from `first` to `last` is joined in: it extends the last span held where the two touch or overlap, otherwise it follows it.
+fn join(words: &mut [u64], held: Held, first: u64, last: u64) -> Held
+    requires { ⌜ 2 * held .count ≤ length (now words) ⌝ }
+    ensures { λ r. ⌜ Written (now (words .entry)) (now (words .exit)) r (fitting (now (words .entry)) (join (first to endAt last) (spansHeld (now (words .entry)) held))) ⌝ }
+{
+    let count = held.count;
+    if count == 0 {
+        return append(words, held, first, last);
+    }
+    let place = 2 * count - 1;
+    if past_by(words[place], 2, first) {
+        return append(words, held, first, last);
+    }
+    words[place] = last;
+    held
+}
+
+// How many spans from the start on ended before the time.
+fn ended(words: &[u64], count: usize, time: u64) -> usize
+    requires { ⌜ 2 * count ≤ length (now words) ⌝ }
+    ensures { λ r. ⌜ r ≡ endedCount time (spansFrom (now (words .entry)) 0 count) ⌝ }
+{
+    let mut i = 0;
+    while i < count {
+        if time <= words[2 * i + 1] {
+            return i;
+        }
+        i += 1;
+    }
+    count
+}
+
+// The first span, if there is one, begins no earlier than the time.
+fn raise_first(words: &mut [u64], count: usize, time: u64)
+    requires { ⌜ 2 * count ≤ length (now words) ⌝ }
+    ensures { λ r. ⌜ now (words .exit) ≡ cond (eqb count 0) (now (words .entry)) (set (now (words .entry)) 0 (max time (getD (now (words .entry)) 0 0))) ⌝ }
+{
+    if count == 0 {
+        return;
+    }
+    if words[0] < time {
+        words[0] = time;
+    }
+}
+
+// The span is written after those held, if there is room.
+fn append(words: &mut [u64], held: Held, first: u64, last: u64) -> Held
+    requires { ⌜ 2 * held .count ≤ length (now words) ⌝ }
+    ensures { λ r. ⌜ Written (now (words .entry)) (now (words .exit)) r (fitting (now (words .entry)) (spansHeld (now (words .entry)) held ++ ((first to endAt last) ∷ []))) ⌝ }
+{
+    let count = held.count;
+    if words.len() / 2 <= count {
+        return held;
+    }
+    words[2 * count] = first;
+    words[2 * count + 1] = last;
+    Held { count: count + 1 }
+}
+
+// Whether the time lies from the word `first` to the word `last`; the mark is after every time.
+fn lies_in(first: u64, last: u64, time: u64) -> bool
+    ensures { λ r. ⌜ r ≡ (leb first time && leb time last) ⌝ }
+{
+    if time < first {
+        return false;
+    }
+    time <= last
+}

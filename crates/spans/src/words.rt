@@ -1,0 +1,67 @@
+// Moves within a lent row of words, and a comparison with a sum that is never made, since it might wrap. Nothing here knows of spans.
+
+ghost use mathlib.Core.List.{_++_};
+ghost use mathlib.Core.Path.{_≡_};
+ghost use Prim.Native.Nat.{_≤_, _+_, _-_};
+ghost use lib.Dec.{leb};
+ghost use lib.ListN.{length, take, drop, replicate};
+ghost use Rattle.spans.specs.Layout.{zeros?};
+
+// Whether `to` is at least `from + gap`; the sum itself might wrap.
+pub fn past_by(from: u64, gap: u64, to: u64) -> bool
+    ensures { λ r. ⌜ r ≡ leb (from + gap) to ⌝ }
+{
+    if to < from {
+        return false;
+    }
+    gap <= to - from
+}
+
+// Every word becomes 0.
+pub fn clear_words(words: &mut [u64])
+    ensures { λ r. ⌜ now (words .exit) ≡ replicate (length (now (words .entry))) 0 ⌝ }
+{
+    let mut i = 0;
+    while i < words.len() {
+        words[i] = 0;
+        i += 1;
+    }
+}
+
+// Words `from` to `end` move to the start, and the words that they leave become 0.
+pub(crate) fn move_down(words: &mut [u64], from: usize, end: usize)
+    requires { ⌜ (from ≤ end) × (end ≤ length (now words)) ⌝ }
+    ensures { λ r. ⌜ now (words .exit) ≡ take (end - from) (drop from (now (words .entry))) ++ (replicate from 0 ++ drop end (now (words .entry))) ⌝ }
+{
+    if from == 0 {
+        return;
+    }
+    copy_down(words, from, end - from);
+    clear_words(&mut words[end - from..end]);
+}
+
+// Whether every word from `from` on is 0.
+pub(crate) fn zeros_from(words: &[u64], from: usize) -> bool
+    ensures { λ r. ⌜ r ≡ zeros? (drop from (now (words .entry))) ⌝ }
+{
+    let mut i = from;
+    while i < words.len() {
+        if words[i] != 0 {
+            return false;
+        }
+        i += 1;
+    }
+    true
+}
+
+// The `size` words from `from` on are copied to the start.
+fn copy_down(words: &mut [u64], from: usize, size: usize)
+    requires { ⌜ from + size ≤ length (now words) ⌝ }
+    ensures { λ r. ⌜ now (words .exit) ≡ take size (drop from (now (words .entry))) ++ drop size (now (words .entry)) ⌝ }
+{
+    let mut i = 0;
+    while i < size {
+        words[i] = words[from + i];
+        i += 1;
+    }
+}
