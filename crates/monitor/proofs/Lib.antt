@@ -17,4 +17,3 @@ pub mod RowLaws
 pub mod AcceptedLaws
 pub mod TurnLaws
 pub mod StepLaws
-pub mod FrameLaws

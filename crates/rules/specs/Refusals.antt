@@ -28,5 +28,9 @@ abbrev pub firstOf : List ℕ → ℕ
 firstOf [] = 0
 firstOf (value ∷ others) = value
 
+-- The row, 0 where there is none.
+abbrev pub rowIn : Refused → ℕ
+rowIn fault = firstOf (fault .values)
+
 abbrev pub rowOf : Refusal → ℕ
-rowOf r = firstOf (refused r .values)
+rowOf r = rowIn (refused r)

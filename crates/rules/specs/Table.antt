@@ -37,14 +37,16 @@ faultOf r row =
     (cond (limitsPass (row .a) (row .b)) none (some (refused (Limits r))))
     (some (refused (Row r)))
 
--- "Among rows the first bad row decides and nothing after it is looked at."
-abbrev pub orElse : Option Refused → Option Refused → Option Refused
-orElse none next = next
-orElse (some fault) next = some fault
+-- The first refusal of two decides.
+infixr 30 _orElse_
+abbrev pub _orElse_ : Option Refused → Option Refused → Option Refused
+none orElse next = next
+some fault orElse next = some fault
 
+-- "Among rows the first bad row decides and nothing after it is looked at."
 unfoldable pub firstFault : List ℕ → ℕ → Option Refused
 firstFault table zero = none
-firstFault table (suc r) = orElse (firstFault table r) (faultOf r (numbersAt table r))
+firstFault table (suc r) = firstFault table r orElse faultOf r (numbersAt table r)
 
 -- "The table check gives the row count and need", or a refusal with the paper's number and values.
 pub data Said : Type 0 where
