@@ -14,8 +14,8 @@ use Rattle.rules.specs.Limits.{rowNumbers, rowLimit}
 use Rattle.rules.specs.Kinds.{known, kindAt, lineOf, useOf, fits}
 use Rattle.rules.specs.Rows.{rowsOf, fieldAt, numbersAt}
 use Rattle.rules.specs.Stretches.{width, offset}
-use Rattle.rules.specs.Refusals.{Refused, refused}
-use Rattle.rules.specs.Table.{lengthPasses, rowPasses, limitsPass, faultOf, _orElse_, firstFault, passed, refusedBy, checkOf}
+use Rattle.rules.specs.Refusals.{Refused, refused, _orElse_}
+use Rattle.rules.specs.Table.{lengthPasses, rowPasses, limitsPass, faultOf, firstFault, passed, refusedBy, checkOf}
 use Rattle.rules.specs.declared.kinds.Use.{Use}
 use Rattle.rules.specs.declared.kinds.Line.{Line}
 use Rattle.rules.specs.declared.numbers.Numbers.{Numbers}

@@ -10,7 +10,7 @@ use Rattle.rules.specs.Limits.{rowNumbers, rowLimit, longest}
 use Rattle.rules.specs.Kinds.{Kind, known, kindAt, fits}
 use Rattle.rules.specs.Rows.{rowsOf, numbersAt}
 use Rattle.rules.specs.Stretches.{needOf}
-use Rattle.rules.specs.Refusals.{Refused, refused}
+use Rattle.rules.specs.Refusals.{Refused, refused, _orElse_}
 use Rattle.rules.specs.declared.numbers.Numbers.{Numbers}
 use Rattle.rules.specs.declared.refusal.Refusal.the-variants.{Length, Row, Limits}
 use Rattle.rules.specs.declared.table.Checked as Answer
@@ -36,12 +36,6 @@ faultOf r row =
     cond (rowPasses r row)
     (cond (limitsPass (row .a) (row .b)) none (some (refused (Limits r))))
     (some (refused (Row r)))
-
--- The first refusal of two decides.
-infixr 30 _orElse_
-abbrev pub _orElse_ : Option Refused → Option Refused → Option Refused
-none orElse next = next
-some fault orElse next = some fault
 
 -- "Among rows the first bad row decides and nothing after it is looked at."
 unfoldable pub firstFault : List ℕ → ℕ → Option Refused
