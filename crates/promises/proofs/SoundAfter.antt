@@ -12,7 +12,7 @@ use Rattle.rules.specs.Kinds.{Rule, plain, stretch}
 use Rattle.rules.specs.Rows.{rowsOf, numbersAt, ruleOf, named}
 use Rattle.rules.specs.Stretches.{spansSaid, spansOf}
 use Rattle.rules.specs.declared.numbers.Numbers.{Numbers}
-use Rattle.rules.proofs.PassedLaws.{InRange}
+use Rattle.rules.proofs.PassedLaws.{InRange, range-order}
 use Rattle.monitor.specs.Layout.{wordOf}
 use Rattle.monitor.specs.Record.{truthAt, spansFound}
 use Rattle.monitor.specs.Event.{Moment, spansBy, spansAfter, truthsAfter, spansNow}
@@ -20,7 +20,7 @@ use Rattle.monitor.proofs.LayoutLaws.{laid-read}
 use Rattle.monitor.proofs.SoundTold.{sound-stored}
 use Rattle.monitor.proofs.SoundKept.{sound-kept}
 use Rattle.promises.specs.Conditions.{Ready, StretchRight, RecordRight}
-use Rattle.promises.proofs.RangeLaws.{range-order, latest-word, latest-most}
+use Rattle.promises.proofs.RangeLaws.{latest-word, latest-most}
 use Rattle.promises.proofs.RowsAfter.{Room}
 use Rattle.promises.proofs.StretchTold.{in-range-of, none-sound}
 use Rattle.promises.proofs.RecordTold.{all-stretches}

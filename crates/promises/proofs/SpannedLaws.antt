@@ -15,14 +15,14 @@ use Rattle.meaning.proofs.FigureLaws.{figure-is-enough}
 use Rattle.rules.specs.Kinds.{Rule, plain, stretch}
 use Rattle.rules.specs.Rows.{numbersAt}
 use Rattle.rules.specs.Stretches.{spansSaid}
-use Rattle.rules.proofs.PassedLaws.{InRange}
+use Rattle.rules.proofs.PassedLaws.{InRange, range-order}
 use Rattle.monitor.specs.Layout.{wordOf}
 use Rattle.monitor.specs.Record.{timeLimit}
 use Rattle.monitor.proofs.LayoutLaws.{Stored}
 use Rattle.monitor.proofs.SoundTold.{sound-stored}
 use Rattle.promises.specs.Spans.{NamedHolds}
 use Rattle.promises.specs.Invariant.{Spanned}
-use Rattle.promises.proofs.RangeLaws.{range-order, latest-word, latest-most}
+use Rattle.promises.proofs.RangeLaws.{latest-word, latest-most}
 use Rattle.promises.proofs.StretchTold.{none-sound}
 use Rattle.promises.proofs.SoundAfter.{RowSound}
 
