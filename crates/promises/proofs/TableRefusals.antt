@@ -7,14 +7,15 @@ use Prim.Native.Nat.{ℕ, zero, suc, _≤_, _<_}
 use native.Mathlib.Nat.{eq-or-lt-of-le, le-of-suc-le-suc}
 use native.Mathlib.Omega.{arith}
 use borrow.Author.Tests.{le-leb, lt-leb}
+use lib.ListN.{length}
 use Rattle.meaning.proofs.SpansLaws.{le-or-lt}
-use Rattle.meaning.proofs.Tells.{tells-decided}
+use Rattle.meaning.proofs.Tells.{tells-passed, tells-decided}
 use Rattle.rules.specs.Refusals.{Refused, refused}
 use Rattle.rules.specs.Rows.{rowsOf, numbersAt}
 use Rattle.rules.specs.Stretches.{offset, needOf}
 use Rattle.rules.specs.Table.{firstFault, passed, refusedBy, checkOf}
 use Rattle.rules.specs.declared.refusal.Refusal.the-variants.{Length, Row, Limits, Store}
-use Rattle.rules.proofs.TableLaws.{fault-row, fault-limits, fault-none, first-at, SoFar, refused-at, passed-at, refused-length}
+use Rattle.rules.proofs.TableLaws.{fault-row, fault-limits, fault-none, first-at, whole-rows-told, SoFar, refused-at, passed-at, refused-length}
 use Rattle.rules.specs.declared.numbers.Numbers.{Numbers}
 use Rattle.monitor.specs.Ready.{readyOf}
 use Rattle.promises.specs.Conditions.{LengthRight, RowRight, LimitsRight, RowsRight, TableRight, Ready}
@@ -36,9 +37,10 @@ module _ (rules : List ℕ) where
   -- Where the check stands at a row with only right ones below it.
   so-far : LengthRight rules → (row : ℕ) → row ≤ rowsOf rules → RowsRight rules row → SoFar rules (offset rules row) row
   so-far lengths row within right =
+      let size = told-true (length-told rules) lengths in
       record {
-        size = told-true (length-told rules) lengths;
-        whole = record { no-rest = lengths .whole; some-row = lengths .least; few-rows = lengths .most };
+        size = size;
+        whole = tells-passed (whole-rows-told (length rules)) size;
         within = within;
         needed = refl;
         good = rows-no-fault row right;

@@ -80,7 +80,7 @@ Fits r Bit number = number < maskBits
 Fits r Lower number = number < r
 Fits r Limit number = Unit
 
-pub fits-told : (r : ℕ) (usage : Use) (number : ℕ) → Tells (fits r usage number) (Fits r usage number)
+fits-told : (r : ℕ) (usage : Use) (number : ℕ) → Tells (fits r usage number) (Fits r usage number)
 fits-told r Unused number = tells-eqb number 0
 fits-told r Bit number = tells-ltb number maskBits
 fits-told r Lower number = tells-ltb number r

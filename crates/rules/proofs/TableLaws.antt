@@ -78,7 +78,7 @@ or-none none next h = (refl, h)
 or-none (some fault) next h = absurd (zero-not-one cc)
 
 -- A fault that was found is the first fault of every longer part of the table.
-pub first-kept : (table : List ℕ) (r n : ℕ) (fault : Refused) → firstFault table r ≡ some fault → r ≤ n → firstFault table n ≡ some fault
+first-kept : (table : List ℕ) (r n : ℕ) (fault : Refused) → firstFault table r ≡ some fault → r ≤ n → firstFault table n ≡ some fault
 unfolding firstFault
 first-kept table r zero fault h within = let e : r ≡ 0 = omega arith in rw e at h
 first-kept table r (suc n) fault h within =

@@ -4,7 +4,7 @@ use mathlib.Core.Path.{_≡_, refl}
 use native.Mathlib.Omega.{arith}
 use Prim.Native.Nat.{ℕ}
 
--- Where two constructors are taken for the same, `cc` has 0 for 1.
+-- Where two constructors are taken for the same, `cc` gives 0 for 1.
 pub zero-not-one : ¬ (_≡_ {A = ℕ} 0 1)
 zero-not-one same = omega arith
 
