@@ -1,8 +1,9 @@
 -- Any two outcomes that the contract of a public function allows are the same: its answer, and every word and byte that it was lent.
 use mathlib.Core.List.{List}
-use mathlib.Core.Path.{_≡_, sym, ap, _∙_}
+use mathlib.Core.Path.{_≡_, ap}
 use Prim.Native.Nat.{ℕ}
 use Rattle.rules.specs.Table.{checkOf}
+use Rattle.rules.proofs.Outcomes.{one-value}
 use Rattle.monitor.specs.Step.{Setup, Call, frameTimeOf}
 use Rattle.lines.specs.Frame.{readFrame}
 use Rattle.board.specs.declared.record.MukRecord.{MukRecord}
@@ -15,10 +16,7 @@ use Rattle.board.specs.declared.line.MukLine.{MukLine}
 use Rattle.board.specs.Answers.{checkedOf, timeOf, lineOf}
 use Rattle.board.specs.Outcomes.{Left, left, leftIn, startOn, callOn}
 
--- Two that equal the same, and their parts.
-one-value : {A : Type 0} {x p q : A} → p ≡ x → q ≡ x → p ≡ q
-one-value p q = p ∙ sym q
-
+-- The parts of two that equal the same.
 one-left : {Answer : Type 0} {x : Left Answer} (r r′ : Answer) (s s′ : List ℕ) → left r s ≡ x → left r′ s′ ≡ x → (r ≡ r′) × (s ≡ s′)
 one-left {Answer} r r′ s s′ p q =
     let e : left r s ≡ left r′ s′ = one-value p q in (ap (λ (o : Left Answer). o .answer) e, ap (λ (o : Left Answer). o .store) e)

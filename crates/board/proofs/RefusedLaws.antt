@@ -8,13 +8,13 @@ use Prim.Native.Nat.{ℕ}
 use native.Mathlib.Omega.{arith}
 use lib.ListN.{length}
 use borrow.Author.Tests.{ne-eqb}
-use Rattle.rules.specs.Refusals.{Refused, refused}
+use Rattle.rules.specs.Refusals.{Refused, refused, _orElse_}
 use Rattle.rules.specs.Rows.{rowsOf}
 use Rattle.rules.specs.declared.refusal.Refusal.the-variants as Refusal
 use Rattle.monitor.specs.Ready.{readyOf, refusalIn}
 use Rattle.monitor.specs.Record.{nothingSeen}
 use Rattle.monitor.specs.Soundness.{sound?}
-use Rattle.monitor.specs.Step.{Setup, Call, refusal, momentOf, outcome, _orElse_, refusalOf, stepOf}
+use Rattle.monitor.specs.Step.{Setup, Call, refusal, momentOf, outcome, refusalOf, stepOf}
 use Rattle.monitor.proofs.ReadyLaws.{ready-none}
 use Rattle.board.specs.declared.record.MukRecord.{MukRecord}
 use Rattle.board.specs.Record.{readable?, recordOf}

@@ -2,7 +2,7 @@
 use mathlib.Core.Option.{Option, none, some}
 use Prim.Native.Nat.{ℕ}
 use lib.ListN.{getD}
-use Rattle.rules.specs.Refusals.{Refused, firstOf}
+use Rattle.rules.specs.Refusals.{Refused, rowIn}
 use Rattle.rules.specs.Table as Table
 use Rattle.monitor.specs.declared.record.Record.{Record}
 use Rattle.monitor.specs.Step.{Reply, verdict, refusal, TimeReply, at, notAt}
@@ -14,10 +14,6 @@ use Rattle.board.specs.declared.call.MukJudged.{MukJudged}
 use Rattle.board.specs.declared.frame_time.MukTime.{MukTime}
 use Rattle.board.specs.declared.line.MukLine.{MukLine}
 use Rattle.board.specs.Record.{byteOf, bytesOf}
-
--- A refusal's row, 0 where it has none.
-abbrev pub rowIn : Refused → ℕ
-rowIn fault = firstOf (fault .values)
 
 -- "number 0: taken, with the row count and the need in words; otherwise the refusal."
 abbrev pub checkedOf : Table.Said → MukChecked

@@ -2,7 +2,7 @@
 use mathlib.Core.List.{List}
 use mathlib.Core.Path.{_≡_, refl, sym, ap, _∙_}
 use Prim.Native.Nat.{ℕ}
-use Rattle.rules.proofs.Outcomes.{refusalOf, refusal-back}
+use Rattle.rules.proofs.Outcomes.{one-value, refusalOf, refusal-back}
 use Rattle.monitor.specs.declared.record.Record.{Record}
 use Rattle.monitor.specs.declared.answer.Answer.{Answer}
 use Rattle.monitor.specs.declared.answer.Answer.the-variants.{Verdict, Refused}
@@ -12,10 +12,6 @@ use Rattle.in_place.specs.Call.{callOf, saidIn}
 use Rattle.in_place.specs.Code.{codeOf}
 use Rattle.in_place.specs.Run.{Ran, ran}
 use Rattle.in_place.specs.declared.call.Call.{Call}
-
--- Two that equal the same.
-one-value : {A : Type 0} {x p q : A} → p ≡ x → q ≡ x → p ≡ q
-one-value p q = p ∙ sym q
 
 -- The answer that says so.
 abbrev answerOf : Reply → Answer

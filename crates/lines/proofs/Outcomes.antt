@@ -2,11 +2,11 @@
 -- from equal answers.
 use mathlib.Core.Bool.{Bool}
 use mathlib.Core.List.{List}
-use mathlib.Core.Path.{_≡_, refl, sym, ap, _∙_}
+use mathlib.Core.Path.{_≡_, refl, ap}
 use Prim.Native.Nat.{ℕ}
 use lib.ListN.{getD}
 use denote.Ref.{now}
-use Rattle.rules.proofs.Outcomes.{refusalOf, refusal-back}
+use Rattle.rules.proofs.Outcomes.{one-value, one-said, refusalOf, refusal-back}
 use Rattle.lines.specs.declared.frame.FrameRead.{FrameRead}
 use Rattle.lines.specs.declared.frame.FrameFound.{FrameFound}
 use Rattle.lines.specs.declared.frame.FrameFound.the-variants as frame
@@ -19,10 +19,6 @@ use Rattle.lines.specs.Frame.{readFrame, frameFound, frameSaid}
 use Rattle.lines.specs.declared.reader.Reader.{Reader}
 use Rattle.lines.specs.Reader.{NextFrame}
 use Rattle.lines.specs.Rule.{readRule, ruleFound, ruleSaid}
-
-module _ {A B : Type 0} (said : A → B) (back : B → A) (undone : (a : A) → back (said a) ≡ a) where
-  same : {b : B} (a a′ : A) → said a ≡ b → said a′ ≡ b → a ≡ a′
-  same a a′ h h′ = sym (undone a) ∙ ap back (h ∙ sym h′) ∙ undone a′
 
 abbrev frameOf : Said → FrameFound
 frameOf end = frame.End
@@ -47,7 +43,7 @@ rule-undone (rule.Refused r) = ap rule.Refused (refusal-back r)
 -- `lines::frame::read_frame`, and `lines::reader::frame_at`, which promises the same.
 pub one-frame : (text : List ℕ) (place : ℕ) (r r′ : FrameRead) → frameSaid r ≡ readFrame text place → frameSaid r′ ≡ readFrame text place → r ≡ r′
 one-frame text place =
-    same frameSaid (λ (s : Read). record { found = frameOf (s .said); next = s .next })
+    one-said frameSaid (λ (s : Read). record { found = frameOf (s .said); next = s .next })
     (λ (r : FrameRead). ap (λ (f : FrameFound). record { found = f; next = r .next }) (frame-undone (r .found)))
 
 -- `lines::reader::Reader::next_frame`: what is found, and the reader.
@@ -57,20 +53,20 @@ one-next before found found′ after after′ h h′ =
     let read : FrameRead = record { found = found; next = after .place } in
     let read′ : FrameRead = record { found = found′; next = after′ .place } in
     let same-read : read ≡ read′ = one-frame (now (before .text)) (before .place) read read′ (h .read) (h′ .read) in
-    let same-text : after .text ≡ after′ .text = h .text ∙ sym (h′ .text) in
+    let same-text : after .text ≡ after′ .text = one-value (h .text) (h′ .text) in
     (ap (λ (r : FrameRead). r .found) same-read, λ i. record { text = same-text i; place = same-read i .next })
 
 -- `lines::rule::read_rule`.
 pub one-rule : (text : List ℕ) (place : ℕ) (r r′ : RuleRead) → ruleSaid r ≡ readRule text place → ruleSaid r′ ≡ readRule text place → r ≡ r′
 one-rule text place =
-    same ruleSaid (λ (s : Read). record { found = ruleOf (s .said); next = s .next })
+    one-said ruleSaid (λ (s : Read). record { found = ruleOf (s .said); next = s .next })
     (λ (r : RuleRead). ap (λ (f : RuleFound). record { found = f; next = r .next }) (rule-undone (r .found)))
 
 -- `lines::digits::digits_at`.
 pub one-count : (text : List ℕ) (place n r r′ : ℕ) → r ≡ digitsAt text place n → r′ ≡ digitsAt text place n → r ≡ r′
-one-count text place n r r′ h h′ = h ∙ sym h′
+one-count text place n r r′ = one-value
 
 -- `lines::digits::write_digits`: the answer, and every byte of what was lent.
 pub one-writing : (out : List ℕ) (place n value : ℕ) (done done′ : Bool) (after after′ : List ℕ)
     → Written out place n value done after → Written out place n value done′ after′ → (done ≡ done′) × (after ≡ after′)
-one-writing out place n value done done′ after after′ h h′ = (h .said ∙ sym (h′ .said), h .bytes ∙ sym (h′ .bytes))
+one-writing out place n value done done′ after after′ h h′ = (one-value (h .said) (h′ .said), one-value (h .bytes) (h′ .bytes))

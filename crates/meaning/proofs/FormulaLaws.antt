@@ -1,4 +1,4 @@
--- The computed truth tells the meaning; reached one event later; once and always in their plain meaning.
+-- The computed truth tells the meaning; reached one event later; once and always in their plain meaning, and before the first event.
 use mathlib.Core.Bool.{Bool}
 use mathlib.Core.List.{[], _∷_}
 use mathlib.Core.Logic.{_↔_, _⊎_, inl, inr, ⊎-elim}
@@ -11,6 +11,7 @@ use Rattle.meaning.specs.Formula.{Formula, truth, bit, negation, both, e
 use Rattle.meaning.specs.Computed.{notPast?, within?, reached?, holds?}
 use Rattle.meaning.proofs.Tells.{Tells, tells-leb, tells-ltb, tells-eqb, tells-not, tells-and, tells-or, tells-same, tells-decided}
 
+-- By arithmetic, so that an upper end that does not belong to its interval is refused here as a fact that is false.
 pub tells-notPast : (n : ℕ) (end : End) → Tells (notPast? n end) (n ≤End end)
 tells-notPast n (upTo m) = tells-same (λ low. omega arith) (λ low. omega arith) (tells-leb n m)
 tells-notPast n noEnd = record { sound = λ _. tt; complete = λ _. tt }
@@ -24,6 +25,7 @@ tells-within a b s t =
 
 -- u is reached after one event more: y is true at it and u is in range of it, or x is true at it and u was reached before.
 module _ (x y : History → Type 0) (a : ℕ) (b : End) (e : Event) (h : History) (u : ℕ) where
+  -- `kept` is passed on by arithmetic too, so that a since that asks x from event j on is refused below, at a fact that is false.
   pub reached-later : Reached x y a b (e ∷ h) u → (y (e ∷ h) × Within a b (e .time) u) ⊎ (x (e ∷ h) × Reached x y a b h u)
   reached-later r = go (r .j) (r .known) (r .fed) (r .apart) (λ k below. r .kept k (omega arith))
     where
@@ -108,11 +110,11 @@ holds-told (since x y a b) h =
 
 module _ (x : Formula) (a : ℕ) (b : End) (h : History) where
   -- Event j, counted back from the newest, is in range of the newest.
-  abbrev pub InRange : ℕ → Type 0
-  InRange j = (j < length h) × Within a b (lastTime (drop j h)) (lastTime h)
+  abbrev pub Near : ℕ → Type 0
+  Near j = (j < length h) × Within a b (lastTime (drop j h)) (lastTime h)
 
   -- Once x: some event in range has x.
-  pub once-means : Holds (once x a b) h ↔ ((j : ℕ) × InRange j × Holds x (drop j h))
+  pub once-means : Holds (once x a b) h ↔ ((j : ℕ) × Near j × Holds x (drop j h))
   unfolding Holds
   once-means = (
     λ r. (r .j, (r .known, r .apart), r .fed),
@@ -120,7 +122,7 @@ module _ (x : Formula) (a : ℕ) (b : End) (h : History) where
   )
 
   -- Always x: every event in range has x.
-  pub always-means : Holds (always x a b) h ↔ ((j : ℕ) → InRange j → Holds x (drop j h))
+  pub always-means : Holds (always x a b) h ↔ ((j : ℕ) → Near j → Holds x (drop j h))
   unfolding Holds
   always-means = (
     λ never j near.
@@ -132,5 +134,13 @@ module _ (x : Formula) (a : ℕ) (b : End) (h : History) where
   )
 
   -- Always x is true also where no event is in range.
-  pub always-of-none : ((j : ℕ) → ¬ InRange j) → Holds (always x a b) h
+  pub always-of-none : ((j : ℕ) → ¬ Near j) → Holds (always x a b) h
   always-of-none none = always-means .1 (λ j near. absurd (none j near))
+
+-- "Before the first event there is nothing, so once is false and always is true."
+pub once-before-first : (x : Formula) (a : ℕ) (b : End) → ¬ Holds (once x a b) []
+unfolding Holds
+once-before-first x a b = reached-never (Holds truth) (Holds x) a b 0
+
+pub always-before-first : (x : Formula) (a : ℕ) (b : End) → Holds (always x a b) []
+always-before-first x a b = always-of-none x a b [] (λ j near. omega arith)

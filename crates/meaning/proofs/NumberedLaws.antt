@@ -10,7 +10,12 @@ use borrow.Author.Tests.{lt-ltb, le-ltb}
 use Rattle.meaning.specs.Interval.{End, Within}
 use Rattle.meaning.specs.History.{Event, History, lastTime, lastMask}
 use Rattle.meaning.specs.Formula.{Formula, truth, bit, negation, both, either, previous, since, Holds}
-use Rattle.meaning.specs.Numbered.{HoldsAt, past, numbered}
+use Rattle.meaning.specs.Numbered.{HoldsAt, numbered}
+
+-- The history at event i: events 0 to i, the newest first.
+unfoldable pub past : (ℕ → Event) → ℕ → History
+past at zero = at zero ∷ []
+past at (suc i) = at (suc i) ∷ past at i
 
 module _ (at : ℕ → Event) where
   past-length : (i : ℕ) → length (past at i) ≡ suc i

@@ -1,4 +1,4 @@
--- Runs are sound: they meet document 01's conditions on a stretch. And what a sound list leaves room for.
+-- No spans are sound. Runs are sound: they meet document 01's conditions on a stretch. And what a sound list leaves room for.
 use mathlib.Core.List.{List, [], _∷_}
 use mathlib.Core.Logic.{_↔_, inl, inr, ⊎-elim}
 use mathlib.Core.Path.{_≡_, subst, subst⁻¹}
@@ -13,6 +13,11 @@ use Rattle.meaning.specs.Runs.{Runs}
 use Rattle.meaning.specs.Sound.{SoundFrom, SoundEndless, SoundSpans, lengthOf}
 use Rattle.meaning.proofs.HistoryLaws.{NoLater, no-later-at}
 use Rattle.meaning.proofs.SpansLaws.{le-or-lt, in-least, end-trans, gap-out, in-rest, rising-from-first, Under}
+
+pub none-sound : (now latestFirst : ℕ) (latestLast : End) (long : ℕ) → SoundSpans now latestFirst latestLast long []
+unfolding SoundSpans SoundFrom SoundEndless
+none-sound now latestFirst (upTo latest) long = tt
+none-sound now latestFirst noEnd long = tt
 
 -- Where u comes from: a time s, not later than the newest event's, in range of u, with all that is in range of s.
 record Source (a : ℕ) (b : End) (newest : ℕ) (R : ℕ → Type 0) (u : ℕ) : Type 0 where

@@ -1,4 +1,5 @@
--- The laws of spans as lists: their least member, clip, join, and that a rising list is known by its members.
+-- The laws of spans as lists: their least member, clip, join, and that a rising list is known by its members. First the case split on which of two
+-- numbers is larger (`by-leb`, `le-or-lt`), which other files use too.
 use mathlib.Core.Bool.{Bool, true, false, not, cond}
 use mathlib.Core.List.{List, [], _∷_}
 use mathlib.Core.Logic.{_↔_, _⊎_, inl, inr, ⊎-elim}

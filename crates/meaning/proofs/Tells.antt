@@ -1,7 +1,7 @@
 -- A computed test that tells a proposition, in both directions, and one law for each connective.
 use mathlib.Core.Bool.{Bool, true, false, not, _&&_, _||_}
 use mathlib.Core.Logic.{_⊎_, inl, inr, ⊎-elim}
-use mathlib.Core.Path.{_≡_, subst}
+use mathlib.Core.Path.{_≡_, sym, subst}
 use Prim.Native.Nat.{ℕ, _≤_, _<_}
 use lib.Dec.{T, leb, ltb, eqb, leb→le, le→leb, ltb→lt, lt→ltb, eqb→eq, eqb-refl}
 
@@ -35,6 +35,10 @@ tells-or {s = false} left right =
 -- The same test tells whatever is equivalent.
 pub tells-same : {s : Bool} {A B : Type 0} → (A → B) → (B → A) → Tells s A → Tells s B
 tells-same there back told = record { sound = λ t. there (told .sound t); complete = λ b. told .complete (back b) }
+
+-- What a test that passes tells.
+pub tells-passed : {s : Bool} {A : Type 0} → Tells s A → s ≡ true → A
+tells-passed told passes = told .sound (subst T (sym passes) tt)
 
 -- What a test tells is decided.
 pub tells-decided : {s : Bool} {A : Type 0} → Tells s A → A ⊎ (¬ A)

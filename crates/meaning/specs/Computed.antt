@@ -15,6 +15,9 @@ notPast? n noEnd = true
 abbrev pub within? : ℕ → End → ℕ → ℕ → Bool
 within? a b s t = leb (s + a) t && notPast? t (s +End b)
 
+abbrev pub bitSet? : ℕ → ℕ → Bool
+bitSet? x mask = eqb (mask / 2 ^ x % 2) 1
+
 -- Going back from the newest event: y there and in range, or x there and reached before.
 unfoldable pub reached? : (x y : History → Bool) → ℕ → End → History → ℕ → Bool
 reached? x y a b [] u = false
@@ -22,7 +25,7 @@ reached? x y a b (e ∷ h) u = (y (e ∷ h) && within? a b (e .time) u) || (x (e
 
 unfoldable pub holds? : Formula → History → Bool
 holds? truth h = true
-holds? (bit x) h = eqb (lastMask h / 2 ^ x % 2) 1
+holds? (bit x) h = bitSet? x (lastMask h)
 holds? (negation x) h = not (holds? x h)
 holds? (both x y) h = holds? x h && holds? y h
 holds? (either x y) h = holds? x h || holds? y h

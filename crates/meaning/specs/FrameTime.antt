@@ -13,12 +13,7 @@ counterOf time = time % turn
 unfoldable pub frameTime : ℕ → ℕ → ℕ
 frameTime last counter = last + (counter + turn - last % turn) % turn
 
--- The times of frames one after the other, from the last time and their counters.
-unfoldable pub frameTimes : ℕ → List ℕ → List ℕ
-frameTimes last [] = []
-frameTimes last (counter ∷ counters) = frameTime last counter ∷ frameTimes (frameTime last counter) counters
-
--- "these never fall, the first is below 65,536 ms and no gap between accepted frames exceeds 65,535 ms".
+-- Demand 2: "these never fall, the first is below 65,536 ms and no gap between accepted frames exceeds 65,535 ms".
 unfoldable pub Close : ℕ → List ℕ → Type 0
 Close last [] = Unit
 Close last (time ∷ times) = (last ≤ time) × (time - last < turn) × Close time times

@@ -3,7 +3,7 @@ use mathlib.Core.Bool.{cond}
 use mathlib.Core.List.{[], _∷_}
 use mathlib.Core.Path.{_≡_}
 use mathlib.Core.Logic.{_⊎_}
-use Prim.Native.Nat.{ℕ, zero, suc, _<_, _≤_}
+use Prim.Native.Nat.{ℕ, suc, _<_, _≤_}
 use lib.Dec.{ltb}
 use lib.ListN.{length}
 use Rattle.meaning.specs.Interval.{Within}
@@ -25,11 +25,6 @@ HoldsAt at (since x y a b) i =
     × HoldsAt at y j
     × Within a b (at j .time) (at i .time)
     × ((k : ℕ) → j < k → k ≤ i → HoldsAt at x k)
-
--- The history at event i: events 0 to i, the newest first.
-unfoldable pub past : (ℕ → Event) → ℕ → History
-past at zero = at zero ∷ []
-past at (suc i) = at (suc i) ∷ past at i
 
 -- The events of a history by number; past the newest, the newest again.
 unfoldable pub numbered : History → ℕ → Event

@@ -1,4 +1,5 @@
--- When the spans of a stretch are sound (document 01, "Spans, store and record", the last two points of its list).
+-- When the spans of a stretch are sound (document 01, "Spans, store and record", the last two points of its list). That "unused words are 0" is said
+-- where spans are laid out in words (`Laid`).
 use mathlib.Core.List.{List, [], _∷_}
 use mathlib.Core.Path.{_≡_}
 use Prim.Native.Nat.{ℕ, _+_, _-_, _≤_, _<_}

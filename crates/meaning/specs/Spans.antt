@@ -17,7 +17,7 @@ unfoldable pub In : ℕ → List Span → Type 0
 In u [] = ⊥
 In u ((first to last) ∷ S) = ((first ≤ u) × (u ≤End last)) ⊎ In u S
 
--- The spans rise from a least first, "a gap between each two": "Runs that touch (last+1 = next first) are one span."
+-- The spans rise from a least first. Demand 3: "rising, a gap between each two"; "Runs that touch (last+1 = next first) are one span."
 unfoldable pub Rising : ℕ → List Span → Type 0
 Rising least [] = Unit
 Rising least ((first to upTo last) ∷ S) = (least ≤ first) × (first ≤ last) × Rising (last + 2) S

@@ -18,7 +18,7 @@ use Rattle.rules.specs.Limits.{spanWords}
 use Rattle.rules.specs.Kinds.{Rule, plain, stretch}
 use Rattle.rules.specs.Rows.{rowsOf, numbersAt, ruleOf, named}
 use Rattle.rules.specs.Stretches.{spansSaid, width, offset}
-use Rattle.rules.specs.Refusals.{Refused}
+use Rattle.rules.specs.Refusals.{Refused, _orElse_}
 use Rattle.rules.specs.declared.numbers.Numbers.{Numbers}
 use Rattle.rules.specs.declared.refusal.Refusal.{Refusal}
 use Rattle.rules.specs.declared.refusal.Refusal.the-variants.{Earlier, Late, Record}
@@ -33,7 +33,7 @@ use Rattle.monitor.specs.Record.{timeLimit, truthAt, heldAt, stretchAt, 
 use Rattle.monitor.specs.Soundness.{soundRow?, sound?}
 use Rattle.monitor.specs.Ready.{readyOf, refusalIn}
 use Rattle.monitor.specs.Event.{Moment, spansBy, spansAfter}
-use Rattle.monitor.specs.Step.{Setup, Call, timeOf, _orElse_, unless, refusalOf}
+use Rattle.monitor.specs.Step.{Setup, Call, timeOf, unless, refusalOf}
 use Rattle.monitor.proofs.ReadyLaws.{Ready, ready-none}
 use Rattle.monitor.proofs.ReachLaws.{reach-storable}
 use Rattle.monitor.proofs.SoundnessLaws.{every-at, sound-parts}

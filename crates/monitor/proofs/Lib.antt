@@ -7,4 +7,3 @@ pub mod RowLaws
 pub mod AcceptedLaws
 pub mod TurnLaws
 pub mod StepLaws
-pub mod FrameLaws

@@ -57,4 +57,4 @@ listed r x y (suc (suc (suc (suc (suc (suc zero)))))) few known fx fy = (omega a
 listed r x y (suc (suc (suc (suc (suc (suc (suc kind))))))) few known fx fy = absurd (omega arith)
 
 pub good-listed : (r : ℕ) (row : Numbers) → r ≤ rowLimit → Good r row → (row .x < rowLimit) × (row .y < rowLimit)
-good-listed r row few good = listed r (row .x) (row .y) (row .kind) few (good .known) (good .x) (good .y)
+good-listed r row few good = listed r (row .x) (row .y) (row .kind) few (good .fits .known) (good .fits .all .x) (good .fits .all .y)

@@ -9,14 +9,14 @@ use lib.ListN.{length}
 use borrow.Author.Tests.{le-leb, lt-leb}
 use Rattle.meaning.specs.FrameTime.{frameTime}
 use Rattle.rules.specs.Rows.{rowsOf}
-use Rattle.rules.specs.Refusals.{Refused, refused}
+use Rattle.rules.specs.Refusals.{Refused, refused, _orElse_}
 use Rattle.rules.specs.Table.{Said, passed, refusedBy}
 use Rattle.rules.specs.declared.refusal.Refusal.the-variants.{Earlier, Late, Record}
 use Rattle.monitor.specs.declared.record.Record as Kept
 use Rattle.monitor.specs.Record.{timeLimit, truthAt}
 use Rattle.monitor.specs.Soundness.{sound?}
 use Rattle.monitor.specs.Ready.{readyOf, refusalIn}
-use Rattle.monitor.specs.Step.{Setup, Call, event, frame, timeOf, _orElse_, unless, refusalOf, verdict, refusal, stepOf}
+use Rattle.monitor.specs.Step.{Setup, Call, event, frame, timeOf, unless, refusalOf, verdict, refusal, stepOf}
 use Rattle.monitor.specs.Event.{recordAfter}
 use Rattle.monitor.specs.Core.{withSound, fitOf, moment, AfterRows}
 use Rattle.monitor.proofs.ReadyLaws.{ready-gives}

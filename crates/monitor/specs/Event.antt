@@ -1,11 +1,10 @@
 -- One event, rows rising, from what was found (document 01, "Spans, store and record": "One event at t, rows rising ..").
 use mathlib.Core.Bool.{Bool, true, not, _&&_, _||_}
 use mathlib.Core.List.{List, [], _++_}
-use Prim.Native.Nat.{ℕ, zero, suc, _/_, _%_, _^_}
-use lib.Dec.{eqb}
+use Prim.Native.Nat.{ℕ, zero, suc}
 use lib.ListN.{length, drop, set}
 use Rattle.meaning.specs.Interval.{endOf}
-use Rattle.meaning.specs.Computed.{within?}
+use Rattle.meaning.specs.Computed.{within?, bitSet?}
 use Rattle.meaning.specs.Spans.{Span, reach, update}
 use Rattle.rules.specs.Kinds.{truth, bit, negation, both, either, previous, Rule, plain, stretch}
 use Rattle.rules.specs.Rows.{rowsOf, numbersAt, ruleOf, named}
@@ -40,7 +39,7 @@ spansAfter m row truths =
 -- seen)"; "The row is true at t exactly when t lies in a span."
 abbrev pub truthBy : Moment → List Bool → List Span → Numbers → Rule → Bool
 truthBy m truths after row (plain truth) = true
-truthBy m truths after row (plain bit) = eqb (m .mask / 2 ^ row .x % 2) 1
+truthBy m truths after row (plain bit) = bitSet? (row .x) (m .mask)
 truthBy m truths after row (plain negation) = not (truthAt truths (row .x))
 truthBy m truths after row (plain both) = truthAt truths (row .x) && truthAt truths (row .y)
 truthBy m truths after row (plain either) = truthAt truths (row .x) || truthAt truths (row .y)

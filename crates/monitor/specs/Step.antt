@@ -7,7 +7,7 @@ use lib.Dec.{leb}
 use lib.ListN.{length}
 use Rattle.meaning.specs.FrameTime.{frameTime}
 use Rattle.rules.specs.Rows.{rowsOf}
-use Rattle.rules.specs.Refusals.{Refused, refused}
+use Rattle.rules.specs.Refusals.{Refused, refused, _orElse_}
 use Rattle.rules.specs.declared.refusal.Refusal.{Refusal}
 use Rattle.rules.specs.declared.refusal.Refusal.the-variants.{Earlier, Late, Record}
 use Rattle.monitor.specs.declared.record.Record as Kept
@@ -38,12 +38,7 @@ abbrev pub maskOf : Call → ℕ
 maskOf (event time mask) = mask
 maskOf (frame counter mask) = mask
 
--- The first refusal of two decides. A condition that is not met is its refusal.
-infixr 30 _orElse_
-abbrev pub _orElse_ : Option Refused → Option Refused → Option Refused
-none orElse next = next
-some fault orElse next = some fault
-
+-- A condition that is not met is its refusal.
 abbrev pub unless : Bool → Refusal → Option Refused
 unless true refusal = none
 unless false refusal = some (refused refusal)

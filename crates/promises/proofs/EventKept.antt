@@ -23,7 +23,7 @@ use Rattle.rules.specs.Stretches.{needOf}
 use Rattle.rules.specs.RowFormula.{formula, formulaOf}
 use Rattle.rules.specs.declared.numbers.Numbers.{Numbers}
 use Rattle.rules.proofs.KindsLaws.{PlainNames, Names}
-use Rattle.rules.proofs.PassedLaws.{passed-formula}
+use Rattle.rules.proofs.PassedLaws.{range-order, passed-formula}
 use Rattle.monitor.specs.Record.{timeLimit, truthAt}
 use Rattle.spans.proofs.CoverLaws.{covered-told}
 use Rattle.monitor.specs.Event.{Moment, spansBy, spansAfter, truthBy, truthOf, truthsAfter, spansNow, storeAfter, recordAfter}
@@ -31,7 +31,6 @@ use Rattle.promises.specs.Stream.{State}
 use Rattle.promises.specs.Spans.{NamedHolds}
 use Rattle.promises.specs.Invariant.{anySeen, Says, Spanned, RowFollows, Invariant}
 use Rattle.promises.proofs.RowsAfter.{Room, truth-set, length-store, row-laid}
-use Rattle.promises.proofs.RangeLaws.{range-order}
 use Rattle.promises.proofs.SoundAfter.{room-after}
 use Rattle.promises.proofs.SoundIsKept.{sound-after, sized-after}
 use Rattle.promises.proofs.InvariantLaws.{passes, spans-found}

@@ -21,6 +21,7 @@ use Rattle.rules.specs.Rows.{rowsOf, numbersAt, ruleOf}
 use Rattle.rules.specs.Stretches.{needOf}
 use Rattle.rules.specs.RowFormula.{below, formulaOf}
 use Rattle.rules.specs.Table.{lengthPasses, rowPasses, faultOf, firstFault, passed, checkOf}
+use Rattle.rules.proofs.PassedLaws.{range-cases, range-order}
 use Rattle.monitor.specs.Record.{timeLimit}
 use Rattle.monitor.specs.Ready.{readyOf}
 use Rattle.monitor.specs.Start.{startOf}
@@ -29,7 +30,6 @@ use Rattle.promises.specs.Stream.{Starts, kept, state, history, clock}
 use Rattle.promises.specs.Conditions.{LimitsRight}
 use Rattle.promises.specs.Spans.{RowRuns}
 use Rattle.promises.specs.Room.{AllKept, Filled, RunsFill, FigureIsReached}
-use Rattle.promises.proofs.RangeLaws.{range-cases, range-order}
 use Rattle.promises.proofs.Deciding.{told-true}
 use Rattle.promises.proofs.TableTold.{limits-told}
 use Rattle.promises.proofs.StretchTold.{in-range-of}

@@ -1,8 +1,8 @@
 -- Any two outcomes that a contract allows are the same: what an answer says gives the answer back.
 use mathlib.Core.Option.{Option, none, some}
-use mathlib.Core.Path.{_≡_, refl, sym, ap, _∙_}
+use mathlib.Core.Path.{_≡_, refl, ap}
 use Rattle.rules.specs.Refusals.{Refused}
-use Rattle.rules.proofs.Outcomes.{refusalOf, refusal-back, check-one-outcome}
+use Rattle.rules.proofs.Outcomes.{one-said, refusalOf, refusal-back}
 use Rattle.monitor.specs.declared.answer.Answer.{Answer}
 use Rattle.monitor.specs.declared.answer.Answer.the-variants as Answer
 use Rattle.monitor.specs.declared.answer.Judged.{Judged}
@@ -13,14 +13,7 @@ use Rattle.monitor.specs.declared.answer.Timed.{Timed}
 use Rattle.monitor.specs.declared.answer.Timed.the-variants as Timed
 use Rattle.monitor.specs.Start.{Beginning, startRefusal, saidStart}
 use Rattle.monitor.specs.Step.{Reply, verdict, refusal, said, Outcome, saidStep, TimeReply, at, notAt, saidTime}
-use Rattle.promises.specs.OneOutcome.{AtMostOne, With, OneOutcome}
-
-one-value : {A : Type 0} {x : A} → AtMostOne (λ (r : A). r ≡ x)
-one-value p q e e′ = e ∙ sym e′
-
--- What can be got back from what is said of it is said of one only.
-one-said : {A B : Type 0} {x : B} (say : A → B) (back : B → A) → ((a : A) → back (say a) ≡ a) → AtMostOne (λ (a : A). say a ≡ x)
-one-said say back returns p q e e′ = sym (returns p) ∙ ap back (e ∙ sym e′) ∙ returns q
+use Rattle.promises.specs.OneOutcome.{With, OneOutcome}
 
 abbrev answerOf : Reply → Answer
 answerOf (verdict holds) = Answer.Verdict holds
@@ -61,14 +54,6 @@ timed-back (Timed.Refused fault) = ap Timed.Refused (refusal-back fault)
 pub one-outcome : OneOutcome
 one-outcome =
     record {
-      check = check-one-outcome;
-      number = λ refusal. one-value;
-      row = λ refusal. one-value;
-      numbers-at = λ table row. one-value;
-      number-at = λ table place. one-value;
-      is-owned = λ row. one-value;
-      spans = λ row. one-value;
-      words = λ row. one-value;
       start = λ table store. one-said (λ (o : With Started). saidStart (o .result) (o .store)) startedOf started-back;
       call = λ setup store found c. one-said (λ (o : With Judged). saidStep (o .result) (o .store)) judgedOf judged-back;
       frame-time = λ last counter. one-said saidTime timedOf timed-back;

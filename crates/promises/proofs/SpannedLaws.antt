@@ -15,13 +15,13 @@ use Rattle.meaning.proofs.FigureLaws.{figure-is-enough}
 use Rattle.rules.specs.Kinds.{Rule, plain, stretch}
 use Rattle.rules.specs.Rows.{numbersAt}
 use Rattle.rules.specs.Stretches.{spansSaid}
-use Rattle.rules.proofs.PassedLaws.{InRange}
+use Rattle.rules.proofs.PassedLaws.{InRange, range-order}
 use Rattle.monitor.specs.Record.{timeLimit}
 use Rattle.spans.proofs.LayoutLaws.{Stored}
 use Rattle.spans.proofs.SoundTold.{sound-stored}
 use Rattle.promises.specs.Spans.{NamedHolds}
 use Rattle.promises.specs.Invariant.{Spanned}
-use Rattle.promises.proofs.RangeLaws.{range-order, latest-storable}
+use Rattle.promises.proofs.RangeLaws.{latest-storable}
 use Rattle.promises.proofs.StretchTold.{none-sound}
 use Rattle.promises.proofs.SoundAfter.{RowSound}
 

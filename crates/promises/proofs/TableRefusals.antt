@@ -7,14 +7,15 @@ use Prim.Native.Nat.{ℕ, zero, suc, _≤_, _<_}
 use native.Mathlib.Nat.{eq-or-lt-of-le, le-of-suc-le-suc}
 use native.Mathlib.Omega.{arith}
 use borrow.Author.Tests.{le-leb, lt-leb}
+use lib.ListN.{length}
 use Rattle.meaning.proofs.SpansLaws.{le-or-lt}
-use Rattle.meaning.proofs.Tells.{tells-decided}
+use Rattle.meaning.proofs.Tells.{tells-passed, tells-decided}
 use Rattle.rules.specs.Refusals.{Refused, refused}
 use Rattle.rules.specs.Rows.{rowsOf, numbersAt}
 use Rattle.rules.specs.Stretches.{offset, needOf}
 use Rattle.rules.specs.Table.{firstFault, passed, refusedBy, checkOf}
 use Rattle.rules.specs.declared.refusal.Refusal.the-variants.{Length, Row, Limits, Store}
-use Rattle.rules.proofs.TableLaws.{fault-row, fault-limits, fault-none, first-at, Reached, refused-at, passed-at, refused-length}
+use Rattle.rules.proofs.TableLaws.{fault-row, fault-limits, fault-none, first-at, whole-rows-told, SoFar, refused-at, passed-at, refused-length}
 use Rattle.rules.specs.declared.numbers.Numbers.{Numbers}
 use Rattle.monitor.specs.Ready.{readyOf}
 use Rattle.promises.specs.Conditions.{LengthRight, RowRight, LimitsRight, RowsRight, TableRight, Ready}
@@ -34,13 +35,14 @@ module _ (rules : List ℕ) where
       (fault-none n numbers (told-true (row-told n numbers) (here .0)) (told-true (limits-told (numbers .a) (numbers .b)) (here .1)))
 
   -- Where the check stands at a row with only right ones below it.
-  reached : LengthRight rules → (row : ℕ) → row ≤ rowsOf rules → RowsRight rules row → Reached rules (offset rules row) row
-  reached lengths row within right =
+  so-far : LengthRight rules → (row : ℕ) → row ≤ rowsOf rules → RowsRight rules row → SoFar rules (offset rules row) row
+  so-far lengths row within right =
+      let size = told-true (length-told rules) lengths in
       record {
-        size = told-true (length-told rules) lengths;
-        whole = record { no-rest = lengths .whole; some-row = lengths .least; few-rows = lengths .most };
+        size = size;
+        whole = tells-passed (whole-rows-told (length rules)) size;
         within = within;
-        so-far = refl;
+        needed = refl;
         good = rows-no-fault row right;
       }
 
@@ -49,17 +51,17 @@ module _ (rules : List ℕ) where
   table-refuses _ (two lengths r lower rows wrong) =
       let numbers = numbersAt rules r in
       sym
-      (refused-at rules (offset rules r) r (reached lengths r (omega arith) rows) (refused (Row r)) lower
+      (refused-at rules (offset rules r) r (so-far lengths r (omega arith) rows) (refused (Row r)) lower
       (fault-row r numbers (told-false (row-told r numbers) wrong)))
   table-refuses _ (three lengths r lower rows right wrong) =
       let numbers = numbersAt rules r in
       sym
-      (refused-at rules (offset rules r) r (reached lengths r (omega arith) rows) (refused (Limits r)) lower
+      (refused-at rules (offset rules r) r (so-far lengths r (omega arith) rows) (refused (Limits r)) lower
       (fault-limits r numbers (told-true (row-told r numbers) right) (told-false (limits-told (numbers .a) (numbers .b)) wrong)))
 
   pub table-passes : TableRight rules → checkOf rules ≡ passed (rowsOf rules) (needOf rules)
   table-passes right =
-      sym (passed-at rules (needOf rules) (rowsOf rules) (reached (right .lengths) (rowsOf rules) (omega arith) (right .rows)) (omega arith))
+      sym (passed-at rules (needOf rules) (rowsOf rules) (so-far (right .lengths) (rowsOf rules) (omega arith) (right .rows)) (omega arith))
 
 -- What is wrong with a row.
 abbrev Bad : ℕ → Numbers → Type 0

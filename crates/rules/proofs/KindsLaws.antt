@@ -1,13 +1,16 @@
--- Laws of the table of kinds.
+-- Laws of the table of kinds: the code's lines are those of the table, what the tests of a row's numbers tell, and that the rows which a row that
+-- passes speaks of are lower.
 use mathlib.Core.Bool.{Bool, true, false, _&&_}
 use mathlib.Core.List.{List, [], _∷_, map}
 use mathlib.Core.Path.{_≡_, refl, _∙_}
 use Prim.Native.Nat.{ℕ, zero, suc, _<_}
 use native.Mathlib.Nat.{le-of-suc-le-suc, not-suc-le-zero}
 use lib.ListN.{length, getD, List·getD-map}
+use Rattle.meaning.proofs.Tells.{Tells, tells-ltb, tells-eqb, tells-and, tells-same}
 use Rattle.rules.specs.Limits.{maskBits}
-use Rattle.rules.specs.Kinds.{Plain, truth, bit, negation, both, either, previous, Source, rowX, rowY, Rule, plain, stretch, Kind, kind, kinds, kindAt, lineOf}
+use Rattle.rules.specs.Kinds.{Plain, truth, bit, negation, both, either, previous, Source, rowX, rowY, Rule, plain, stretch, Kind, kind, kinds, kindAt, lineOf, fits}
 use Rattle.rules.specs.Rows.{ruleOf, named}
+use Rattle.rules.specs.Table.{rowPasses}
 use Rattle.rules.specs.declared.kinds.Use.{Use}
 use Rattle.rules.specs.declared.kinds.Use.the-variants.{Unused, Bit, Lower, Limit}
 use Rattle.rules.specs.declared.kinds.Line.{Line}
@@ -77,6 +80,37 @@ Fits r Bit number = number < maskBits
 Fits r Lower number = number < r
 Fits r Limit number = Unit
 
+fits-told : (r : ℕ) (usage : Use) (number : ℕ) → Tells (fits r usage number) (Fits r usage number)
+fits-told r Unused number = tells-eqb number 0
+fits-told r Bit number = tells-ltb number maskBits
+fits-told r Lower number = tells-ltb number r
+fits-told r Limit number = record { sound = λ _. tt; complete = λ _. tt }
+
+-- Each number of a row fits the use that the line of a kind has for it.
+pub record AllFit (r : ℕ) (k : Kind) (row : Numbers) : Type 0 where
+  pub x : Fits r (k .x) (row .x)
+  pub y : Fits r (k .y) (row .y)
+  pub a : Fits r (k .a) (row .a)
+  pub b : Fits r (k .b) (row .b)
+
+-- What a row that passes 2 is.
+pub record RowFits (r : ℕ) (row : Numbers) : Type 0 where
+  pub known : row .kind < length kinds
+  pub all : AllFit r (kindAt (row .kind)) row
+
+pub row-fits-told : (r : ℕ) (row : Numbers) → Tells (rowPasses r row) (RowFits r row)
+unfolding rowPasses
+row-fits-told r row =
+    let k : Kind = kindAt (row .kind) in
+    tells-same
+    (λ h. record { known = h .0; all = record { x = h .1 .0 .0 .0; y = h .1 .0 .0 .1; a = h .1 .0 .1; b = h .1 .1 } })
+    (λ right. (right .known, (((right .all .x, right .all .y), right .all .a), right .all .b)))
+    (tells-and
+    (tells-ltb (row .kind) (length kinds))
+    (tells-and
+    (tells-and (tells-and (fits-told r (k .x) (row .x)) (fits-told r (k .y) (row .y))) (fits-told r (k .a) (row .a)))
+    (fits-told r (k .b) (row .b))))
+
 lower-told : (r : ℕ) (usage : Use) (number : ℕ) → isLower usage ≡ true → Fits r usage number → number < r
 lower-told r Unused number h fit = absurd (no-truth h)
 lower-told r Bit number h fit = absurd (no-truth h)
@@ -102,14 +136,14 @@ abbrev pub Names : ℕ → Numbers → Rule → Type 0
 Names r row (plain says) = PlainNames r row says
 Names r row (stretch keep feed) = (named keep row < r) × (named feed row < r)
 
-module _ (r : ℕ) (row : Numbers) (k : Kind) (x : Fits r (k .x) (row .x)) (y : Fits r (k .y) (row .y)) where
+module _ (r : ℕ) (row : Numbers) (k : Kind) (fit : AllFit r k row) where
   source-lower : (s : Source) → sourceLower k s ≡ true → named s row < r
-  source-lower rowX h = lower-told r (k .x) (row .x) h x
-  source-lower rowY h = lower-told r (k .y) (row .y) h y
+  source-lower rowX h = lower-told r (k .x) (row .x) h (fit .x)
+  source-lower rowY h = lower-told r (k .y) (row .y) h (fit .y)
 
   plain-names : (says : Plain) → plainRight k says ≡ true → PlainNames r row says
   plain-names truth h = tt
-  plain-names bit h = bit-told r (k .x) (row .x) h x
+  plain-names bit h = bit-told r (k .x) (row .x) h (fit .x)
   plain-names negation h = source-lower rowX h
   plain-names both h =
       (source-lower rowX (and-left (isLower (k .x)) (isLower (k .y)) h), source-lower rowY (and-right (isLower (k .x)) (isLower (k .y)) h))
@@ -125,5 +159,5 @@ module _ (r : ℕ) (row : Numbers) (k : Kind) (x : Fits r (k .x) (row .x)) (y : 
   )
 
 -- The rows that a row speaks of are lower, for every kind of the table.
-pub names-lower : (r : ℕ) (row : Numbers) → row .kind < length kinds → Fits r (kindAt (row .kind) .x) (row .x) → Fits r (kindAt (row .kind) .y) (row .y) → Names r row (ruleOf row)
-names-lower r row known x y = rule-names r row (kindAt (row .kind)) x y (ruleOf row) (kinds-right (row .kind) known)
+pub names-lower : (r : ℕ) (row : Numbers) → RowFits r row → Names r row (ruleOf row)
+names-lower r row fits = rule-names r row (kindAt (row .kind)) (fits .all) (ruleOf row) (kinds-right (row .kind) (fits .known))

@@ -8,4 +8,3 @@ pub mod TableLaws
 pub mod PassedLaws
 pub mod RowFormulaLaws
 pub mod Outcomes
-pub mod ExactlyLaws

@@ -9,7 +9,7 @@ use lib.ListN.{getD}
 use Rattle.rules.specs.Kinds.{ownsStretch}
 use Rattle.rules.specs.Rows.{numbersAt}
 use Rattle.rules.specs.Stretches.{spansOf, width}
-use Rattle.rules.specs.Refusals.{Refused, refused, numberOf, rowOf, firstOf}
+use Rattle.rules.specs.Refusals.{Refused, refused, numberOf, rowIn, rowOf}
 use Rattle.rules.specs.Table.{Said, passed, refusedBy, said, checkOf}
 use Rattle.rules.specs.declared.numbers.Numbers.{Numbers}
 use Rattle.rules.specs.declared.refusal.Refusal.{Refusal}
@@ -17,15 +17,19 @@ use Rattle.rules.specs.declared.refusal.Refusal.the-variants.{Length, Ro
 use Rattle.rules.specs.declared.table.Checked as Answer
 
 -- Two that equal the same.
-one-value : {A : Type 0} {x p q : A} → p ≡ x → q ≡ x → p ≡ q
+pub one-value : {A : Type 0} {x p q : A} → p ≡ x → q ≡ x → p ≡ q
 one-value p q = p ∙ sym q
+
+-- What can be got back from what is said of it is said of one only.
+pub one-said : {A B : Type 0} {x : B} (say : A → B) (back : B → A) → ((a : A) → back (say a) ≡ a) → (p q : A) → say p ≡ x → say q ≡ x → p ≡ q
+one-said say back returns p q e e′ = sym (returns p) ∙ ap back (one-value e e′) ∙ returns q
 
 -- The refusal with a number and values.
 abbrev pub refusalOf : Refused → Refusal
 refusalOf r =
     cond (eqb (r .number) 1) Length
-    (cond (eqb (r .number) 2) (Row (firstOf (r .values)))
-    (cond (eqb (r .number) 3) (Limits (firstOf (r .values)))
+    (cond (eqb (r .number) 2) (Row (rowIn r))
+    (cond (eqb (r .number) 3) (Limits (rowIn r))
     (cond (eqb (r .number) 4) Store
     (cond (eqb (r .number) 5) Earlier
     (cond (eqb (r .number) 6) Late
@@ -53,7 +57,7 @@ answer-back (Answer.the-variants.Passed rows need) = refl
 answer-back (Answer.the-variants.Refused refusal) = ap Answer.the-variants.Refused (refusal-back refusal)
 
 pub check-one-outcome : (table : List ℕ) (p q : Answer.Checked) → said p ≡ checkOf table → said q ≡ checkOf table → p ≡ q
-check-one-outcome table p q hp hq = sym (answer-back p) ∙ ap answerOf (one-value hp hq) ∙ answer-back q
+check-one-outcome table = one-said said answerOf answer-back
 
 pub number-one-outcome : (r : Refusal) (p q : ℕ) → p ≡ numberOf r → q ≡ numberOf r → p ≡ q
 number-one-outcome r p q = one-value

@@ -1,4 +1,4 @@
--- Laws of the stretches.
+-- How many spans a row can need at most, and that a stretch ends where a later one begins, or before it.
 use mathlib.Core.Bool.{cond}
 use mathlib.Core.List.{List}
 use mathlib.Core.Logic.{⊎-elim}
@@ -30,16 +30,7 @@ spans-most row = said-most (ruleOf row) row
 pub spans-below : (row : Numbers) → spansOf row ≤ row .b / 2 + 1
 spans-below row = omega (arith, spans-most row, figure-most (row .a) (row .b))
 
--- The first stretch begins at word 0, and each where the former ends.
-pub stretch-first : (table : List ℕ) → offset table 0 ≡ 0
-unfolding offset
-stretch-first table = refl
-
-pub stretch-next : (table : List ℕ) (r : ℕ) → offset table (suc r) ≡ offset table r + width (numbersAt table r)
-unfolding offset
-stretch-next table r = refl
-
--- So a stretch ends where a later one begins, or before it.
+-- A stretch ends where a later one begins, or before it.
 pub stretch-before : (table : List ℕ) (r n : ℕ) → r < n → offset table r + width (numbersAt table r) ≤ offset table n
 unfolding offset
 stretch-before table r zero lower = absurd (omega arith)

@@ -1,31 +1,30 @@
--- Laws of the table check: what each test decides, the first fault, and that the need fits.
-use mathlib.Core.Bool.{Bool, true, false, _&&_}
+-- Laws of the table check: what each test decides, the first fault, and where the check stands after some rows.
+use mathlib.Core.Bool.{Bool, true, false}
 use mathlib.Core.List.{List}
-use mathlib.Core.Logic.{_⊎_, ⊎-elim}
+use mathlib.Core.Logic.{⊎-elim}
 use mathlib.Core.Option.{Option, none, some}
-use mathlib.Core.Path.{_≡_, refl, _∙_}
+use mathlib.Core.Path.{_≡_, refl}
 use Prim.Native.Nat.{ℕ, zero, suc, _+_, _/_, _%_, _≤_, _<_}
 use native.Mathlib.Nat.{eq-or-lt-of-le, le-of-suc-le-suc}
 use native.Mathlib.Numerals.{add-one}
 use native.Mathlib.Omega.{arith}
-use lib.Dec.{leb, eqb}
 use lib.ListN.{length}
-use borrow.Author.Tests.{leb-true, eqb-true}
+use Rattle.meaning.proofs.Tells.{Tells, tells-leb, tells-eqb, tells-and, tells-same}
 use Rattle.rules.specs.Limits.{rowNumbers, rowLimit}
 use Rattle.rules.specs.Kinds.{known, kindAt, lineOf, useOf, fits}
-use Rattle.rules.specs.Rows.{rowsOf, numberAt, numbersAt}
+use Rattle.rules.specs.Rows.{rowsOf, fieldAt, numbersAt}
 use Rattle.rules.specs.Stretches.{width, offset}
-use Rattle.rules.specs.Refusals.{Refused, refused}
+use Rattle.rules.specs.Refusals.{Refused, refused, _orElse_}
 use Rattle.rules.specs.Table.{lengthPasses, rowPasses, limitsPass, faultOf, firstFault, passed, refusedBy, checkOf}
 use Rattle.rules.specs.declared.kinds.Use.{Use}
 use Rattle.rules.specs.declared.kinds.Line.{Line}
 use Rattle.rules.specs.declared.numbers.Numbers.{Numbers}
 use Rattle.rules.specs.declared.refusal.Refusal.the-variants.{Length, Row, Limits}
-use Rattle.rules.proofs.Truths.{and-false, and-left, and-right}
+use Rattle.rules.proofs.Truths.{zero-not-one, and-false}
 
 -- The number at a field of a row fits its use.
 abbrev pub fieldFits : List ℕ → ℕ → ℕ → Bool
-fieldFits table r field = fits r (useOf (lineOf (kindAt (numbersAt table r .kind))) field) (numberAt table r field)
+fieldFits table r field = fits r (useOf (lineOf (kindAt (numbersAt table r .kind))) field) (fieldAt table r field)
 
 -- The same, from what was read and looked up on the way to it.
 pub field-told :
@@ -33,7 +32,7 @@ pub field-told :
     → found ≡ numbersAt table r
     → line ≡ lineOf (kindAt (found .kind))
     → usage ≡ useOf line field
-    → number ≡ numberAt table r field
+    → number ≡ fieldAt table r field
     → fits r usage number ≡ fieldFits table r field
 field-told table r field row-read line-read use-read number-read = rw (use-read, line-read, row-read, number-read)
 
@@ -73,8 +72,13 @@ pub fault-none : (r : ℕ) (row : Numbers) → rowPasses r row ≡ true → limi
 unfolding faultOf
 fault-none r row h l = rw (h, l)
 
+-- Where neither of two refuses.
+pub or-none : (first next : Option Refused) → (first orElse next) ≡ none → (first ≡ none) × (next ≡ none)
+or-none none next h = (refl, h)
+or-none (some fault) next h = absurd (zero-not-one cc)
+
 -- A fault that was found is the first fault of every longer part of the table.
-pub first-kept : (table : List ℕ) (r n : ℕ) (fault : Refused) → firstFault table r ≡ some fault → r ≤ n → firstFault table n ≡ some fault
+first-kept : (table : List ℕ) (r n : ℕ) (fault : Refused) → firstFault table r ≡ some fault → r ≤ n → firstFault table n ≡ some fault
 unfolding firstFault
 first-kept table r zero fault h within = let e : r ≡ 0 = omega arith in rw e at h
 first-kept table r (suc n) fault h within =
@@ -82,28 +86,6 @@ first-kept table r (suc n) fault h within =
     (λ e. rw e at h)
     (λ lower. rw (first-kept table r n fault h (le-of-suc-le-suc lower)))
     (eq-or-lt-of-le within)
-
--- The first fault is that of a row, and no row before it has one.
-pub record Found (table : List ℕ) (n : ℕ) (fault : Refused) : Type 0 where
-  pub row : ℕ
-  pub within : row < n
-  pub none-before : firstFault table row ≡ none
-  pub here : faultOf row (numbersAt table row) ≡ some fault
-
-pub first-found : (table : List ℕ) (n : ℕ) (fault : Refused) → firstFault table n ≡ some fault → Found table n fault
-unfolding firstFault
-first-found table zero fault h = let z : _≡_ {A = ℕ} 0 1 = cc in absurd (omega arith)
-first-found table (suc n) fault h = go (first-found table n fault) (firstFault table n) refl
-  where
-    go :
-        (firstFault table n ≡ some fault → Found table n fault)
-        → (o : Option Refused)
-        → firstFault table n ≡ o
-        → Found table (suc n) fault
-    go lower none e = record { row = n; within = omega arith; none-before = e; here = rw e at h }
-    go lower (some f) e =
-        let found = lower (e ∙ rw e at h) in
-        record { row = found .row; within = omega (arith, found .within); none-before = found .none-before; here = found .here }
 
 -- A fault after rows without one is the first.
 pub first-at : (table : List ℕ) (r : ℕ) (fault : Option Refused) → firstFault table r ≡ none → faultOf r (numbersAt table r) ≡ fault → firstFault table (suc r) ≡ fault
@@ -116,59 +98,54 @@ pub record WholeRows (numbers : ℕ) : Type 0 where
   pub some-row : 1 ≤ numbers / rowNumbers
   pub few-rows : numbers / rowNumbers ≤ rowLimit
 
-pub length-told : (numbers : ℕ) → lengthPasses numbers ≡ true → WholeRows numbers
+pub whole-rows-told : (numbers : ℕ) → Tells (lengthPasses numbers) (WholeRows numbers)
 unfolding lengthPasses
-length-told numbers h =
-    let whole : Bool = eqb (numbers % rowNumbers) 0 in
-    let least : Bool = leb 1 (numbers / rowNumbers) in
-    let most : Bool = leb (numbers / rowNumbers) rowLimit in
-    let first : ((whole && least) ≡ true) = and-left (whole && least) most h in
-    record {
-      no-rest = eqb-true _ _ (and-left whole least first);
-      some-row = leb-true _ _ (and-right whole least first);
-      few-rows = leb-true _ _ (and-right (whole && least) most h);
-    }
+whole-rows-told numbers =
+    tells-same
+    (λ h. record { no-rest = h .0 .0; some-row = h .0 .1; few-rows = h .1 })
+    (λ rows. ((rows .no-rest, rows .some-row), rows .few-rows))
+    (tells-and (tells-and (tells-eqb (numbers % rowNumbers) 0) (tells-leb 1 (numbers / rowNumbers))) (tells-leb (numbers / rowNumbers) rowLimit))
 
 -- Where the table check stands after some rows: all of them pass, and this much is needed for them.
-pub record Reached (table : List ℕ) (need row : ℕ) : Type 0 where
+pub record SoFar (table : List ℕ) (need row : ℕ) : Type 0 where
   pub size : lengthPasses (length table) ≡ true
   pub whole : WholeRows (length table)
   pub within : row ≤ rowsOf table
-  pub so-far : need ≡ offset table row
+  pub needed : need ≡ offset table row
   pub good : firstFault table row ≡ none
 
-module _ (table : List ℕ) (need r : ℕ) (reached : Reached table need r) where
+module _ (table : List ℕ) (need r : ℕ) (before : SoFar table need r) where
   -- The next row is bad: its fault is the answer.
   pub refused-at : (fault : Refused) → r < rowsOf table → faultOf r (numbersAt table r) ≡ some fault → refusedBy fault ≡ checkOf table
   unfolding checkOf
   refused-at fault more h =
       rw (
-        reached .size,
-        first-kept table (suc r) (rowsOf table) fault (first-at table r (some fault) (reached .good) h) more,
+        before .size,
+        first-kept table (suc r) (rowsOf table) fault (first-at table r (some fault) (before .good) h) more,
       )
 
   -- There is no next row: the table passes.
   pub passed-at : rowsOf table ≤ r → passed (rowsOf table) need ≡ checkOf table
   unfolding checkOf
   passed-at done =
-      let all : r ≡ rowsOf table = omega (arith, reached .within) in
-      rw (reached .size, ← all, reached .good, reached .so-far)
+      let all : r ≡ rowsOf table = omega (arith, before .within) in
+      rw (before .size, ← all, before .good, before .needed)
 
   -- The next row passes.
-  pub reached-more :
+  pub next-passes :
       (words : ℕ)
       → r < rowsOf table
       → faultOf r (numbersAt table r) ≡ none
       → words ≡ width (numbersAt table r)
-      → Reached table (need + words) (r + 1)
+      → SoFar table (need + words) (r + 1)
   unfolding offset
-  reached-more words more h e =
+  next-passes words more h e =
       record {
-        size = reached .size;
-        whole = reached .whole;
+        size = before .size;
+        whole = before .whole;
         within = omega arith;
-        so-far = rw (add-one, reached .so-far, e);
-        good = rw (add-one, first-at table r none (reached .good) h);
+        needed = rw (add-one, before .needed, e);
+        good = rw (add-one, first-at table r none (before .good) h);
       }
 
 -- 1: the length is wrong.

@@ -1,12 +1,15 @@
--- Laws of `&&` and `||`.
-use mathlib.Core.Bool.{Bool, true, false, _&&_, _||_}
-use mathlib.Core.Logic.{_⊎_, inl, inr}
+-- Laws of `&&`, and what is never so.
+use mathlib.Core.Bool.{Bool, true, false, _&&_}
 use mathlib.Core.Path.{_≡_, refl}
 use native.Mathlib.Omega.{arith}
 use Prim.Native.Nat.{ℕ}
 
-pub no-truth : false ≡ true → ⊥
-no-truth h = let z : _≡_ {A = ℕ} 0 1 = cc in omega arith
+-- Where two constructors are taken for the same, `cc` gives 0 for 1.
+pub zero-not-one : ¬ (_≡_ {A = ℕ} 0 1)
+zero-not-one same = omega arith
+
+pub no-truth : ¬ (false ≡ true)
+no-truth h = zero-not-one cc
 
 pub and-false : (a : Bool) → (a && false) ≡ false
 and-false true = refl
@@ -19,7 +22,3 @@ and-left false b h = h
 pub and-right : (a b : Bool) → (a && b) ≡ true → b ≡ true
 and-right true b h = h
 and-right false b h = absurd (no-truth h)
-
-pub or-cases : (a b : Bool) → (a || b) ≡ true → (a ≡ true) ⊎ (b ≡ true)
-or-cases true b h = inl refl
-or-cases false b h = inr h

@@ -1,4 +1,5 @@
--- The one table of kinds (document 01, "The rule table"). A new kind is one line more.
+-- The one table of kinds (document 01, "The rule table"). A new kind is a line here and in src/kinds.rt; what its rows say is a stretch, or a case of
+-- `Plain`.
 use mathlib.Core.Bool.{Bool, true, false, cond}
 use mathlib.Core.List.{List, [], _∷_}
 use Prim.Native.Nat.{ℕ}
@@ -61,7 +62,7 @@ kinds =
 abbrev pub known : ℕ → Bool
 known k = ltb k (length kinds)
 
--- The line of a kind; where there is none, a line that uses nothing and says nothing.
+-- The line of a kind; where there is none, a line that uses nothing and says true; such a row is refused.
 unfoldable pub kindAt : ℕ → Kind
 kindAt k = getD kinds k (kind Unused Unused Unused Unused (plain truth))
 

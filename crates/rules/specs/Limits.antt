@@ -14,7 +14,7 @@ rowLimit = 64
 abbrev pub maskBits : ℕ
 maskBits = 32
 
--- "a is 0 to 86,400,000".
+-- "a is 0 to 86,400,000; b is a to 86,400,000".
 abbrev pub longest : ℕ
 longest = 86_400_000
 

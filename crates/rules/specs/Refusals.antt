@@ -1,5 +1,6 @@
--- What each refusal gives (document 01, "Refusal numbers"): its number, and its row where it has one. The one list.
+-- What each refusal gives (document 01, "Refusal numbers"): its number, and its row where it has one. The one list; and which of two decides.
 use mathlib.Core.List.{List, [], _∷_}
+use mathlib.Core.Option.{Option, none, some}
 use Prim.Native.Nat.{ℕ}
 use Rattle.rules.specs.declared.refusal.Refusal.{Refusal}
 use Rattle.rules.specs.declared.refusal.Refusal.the-variants.{Length, Row, Limits, Store, Earlier, Late, Record, Line, Sum}
@@ -28,5 +29,15 @@ abbrev pub firstOf : List ℕ → ℕ
 firstOf [] = 0
 firstOf (value ∷ others) = value
 
+-- The row, 0 where there is none.
+abbrev pub rowIn : Refused → ℕ
+rowIn fault = firstOf (fault .values)
+
 abbrev pub rowOf : Refusal → ℕ
-rowOf r = firstOf (refused r .values)
+rowOf r = rowIn (refused r)
+
+-- "Tried in the order of the rows here": the first of two decides.
+infixr 30 _orElse_
+abbrev pub _orElse_ : Option Refused → Option Refused → Option Refused
+none orElse next = next
+some fault orElse next = some fault

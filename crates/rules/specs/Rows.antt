@@ -9,18 +9,18 @@ use Rattle.rules.specs.declared.numbers.Numbers.{Numbers}
 abbrev pub rowsOf : List ℕ → ℕ
 rowsOf table = length table / rowNumbers
 
--- A number of a row; 0 past the table's end.
-abbrev pub numberAt : List ℕ → ℕ → ℕ → ℕ
-numberAt table row field = getD table (row * rowNumbers + field) 0
+-- The number at a field of a row; 0 past the table's end.
+abbrev pub fieldAt : List ℕ → ℕ → ℕ → ℕ
+fieldAt table row field = getD table (row * rowNumbers + field) 0
 
 unfoldable pub numbersAt : List ℕ → ℕ → Numbers
 numbersAt table row =
     record {
-      kind = numberAt table row 0;
-      x = numberAt table row 1;
-      y = numberAt table row 2;
-      a = numberAt table row 3;
-      b = numberAt table row 4;
+      kind = fieldAt table row 0;
+      x = fieldAt table row 1;
+      y = fieldAt table row 2;
+      a = fieldAt table row 3;
+      b = fieldAt table row 4;
     }
 
 -- What a row says, decoded once.

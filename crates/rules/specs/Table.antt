@@ -10,7 +10,7 @@ use Rattle.rules.specs.Limits.{rowNumbers, rowLimit, longest}
 use Rattle.rules.specs.Kinds.{Kind, known, kindAt, fits}
 use Rattle.rules.specs.Rows.{rowsOf, numbersAt}
 use Rattle.rules.specs.Stretches.{needOf}
-use Rattle.rules.specs.Refusals.{Refused, refused}
+use Rattle.rules.specs.Refusals.{Refused, refused, _orElse_}
 use Rattle.rules.specs.declared.numbers.Numbers.{Numbers}
 use Rattle.rules.specs.declared.refusal.Refusal.the-variants.{Length, Row, Limits}
 use Rattle.rules.specs.declared.table.Checked as Answer
@@ -38,13 +38,9 @@ faultOf r row =
     (some (refused (Row r)))
 
 -- "Among rows the first bad row decides and nothing after it is looked at."
-abbrev pub orElse : Option Refused → Option Refused → Option Refused
-orElse none next = next
-orElse (some fault) next = some fault
-
 unfoldable pub firstFault : List ℕ → ℕ → Option Refused
 firstFault table zero = none
-firstFault table (suc r) = orElse (firstFault table r) (faultOf r (numbersAt table r))
+firstFault table (suc r) = firstFault table r orElse faultOf r (numbersAt table r)
 
 -- "The table check gives the row count and need", or a refusal with the paper's number and values.
 pub data Said : Type 0 where

@@ -1,4 +1,5 @@
-// The one table of kinds (document 01, "The rule table"), private to the crate. A new kind is one line more.
+// The one table of kinds (document 01, "The rule table"), private to the crate: the lines of specs/Kinds as code. A new kind is a line in both, and a
+// case where the monitor judges its rows.
 
 ghost use mathlib.Core.Path.{_≡_};
 ghost use Rattle.rules.specs.Kinds.{kindAt, known, lineOf, useOf, fits};

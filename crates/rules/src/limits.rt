@@ -9,7 +9,7 @@ pub const ROW_LIMIT: usize = 64;
 // "x 0 to 31": the mask has this many bits.
 pub const MASK_BITS: u32 = 32;
 
-// "a is 0 to 86,400,000".
+// "a is 0 to 86,400,000; b is a to 86,400,000".
 pub const LONGEST: u32 = 86_400_000;
 
 // "4,294,967,295 for 'no end'".

@@ -17,6 +17,7 @@ pub struct Numbers {
 pub fn numbers_at(table: &[u32], row: usize) -> Numbers
     ensures { λ r. ⌜ r ≡ numbersAt (now (table .entry)) row ⌝ }
 {
+    // Past the table's length, so that row * 5 cannot overflow.
     if table.len() <= row {
         return Numbers {
             kind: 0,

@@ -1,5 +1,5 @@
-// The one list of refusals (document 01, "Refusal numbers"). Every answer of every crate that refuses holds one of these, and only this
-// file takes them apart.
+// The one list of refusals (document 01, "Refusal numbers"). Every enum that refuses holds one of these; what leaves as plain numbers is made by
+// `number` and `row`, and only this file takes a refusal apart.
 
 ghost use mathlib.Core.Path.{_≡_};
 ghost use Rattle.rules.specs.Refusals.{numberOf, rowOf};

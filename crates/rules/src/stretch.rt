@@ -56,6 +56,7 @@ fn apart(a: u32, b: u32) -> u32
     0
 }
 
+// A number of the table in 64 bits.
 fn wide(number: u32) -> u64
     ensures { λ r. ⌜ r ≡ number ⌝ }
 {

@@ -8,7 +8,6 @@ use crate::limits::NO_END;
 use crate::limits::ROW_LIMIT;
 use crate::limits::ROW_NUMBERS;
 use crate::numbers;
-use crate::numbers::Numbers;
 use crate::refusal::Refusal;
 use crate::stretch;
 
@@ -19,7 +18,7 @@ pub enum Checked {
     Refused(Refusal),
 }
 
-// The row count and the need of a table, or the refusal of its first bad row; nothing after that row is looked at.
+// The row count and the need of a table; or refusal 1 for its length, or that of its first bad row, after which nothing is looked at.
 pub fn check(table: &[u32]) -> Checked
     ensures { λ r. ⌜ said r ≡ checkOf (now (table .entry)) ⌝ }
 {

@@ -6,7 +6,7 @@ use Prim.Native.Nat.{ℕ, _+_}
 use lib.ListN.{length}
 use Rattle.lines.specs.Digits.{digits, over}
 use Rattle.lines.specs.Line.{lineFeed}
-use Rattle.rules.specs.Refusals.{Refused, firstOf}
+use Rattle.rules.specs.Refusals.{Refused, rowIn}
 
 -- A line of two numbers, each in so many digits.
 unfoldable pub replyLine : (n first m second : ℕ) → List ℕ
@@ -42,7 +42,7 @@ refusalLine number row = digits byteDigits refusalMark ++ replyLine byteDigits n
 
 -- A refusal with the row that it gives, or 00.
 abbrev pub refusedLine : Refused → List ℕ
-refusedLine fault = refusalLine (fault .number) (firstOf (fault .values))
+refusedLine fault = refusalLine (fault .number) (rowIn fault)
 
 -- No line is longer than a verdict's.
 abbrev pub longestReply : ℕ

@@ -1,4 +1,4 @@
--- `rules::table::check` meets its contract. After some rows the check has `Reached` them: they pass, and the need so far is where the next
+-- `rules::table::check` meets its contract. After some rows the check stands at `SoFar`: they pass, and the need so far is where the next
 -- stretch begins. After some fields of a row, each of these fits. A way out at a fault is `refused-at`, the way out at the end `passed-at`.
 -- The measures are the rows and the fields that are left. Assumes nothing.
 use Prim.Native.Nat.{ℕ, _-_, _≤_, _<_}
@@ -11,6 +11,7 @@ use native.Mathlib.Nat.{eq-or-lt-of-le}
 use lib.ListN.{length}
 use native.Mathlib.Omega.{arith}
 use borrow.Author.Tests.{not-true, not-false}
+use Rattle.meaning.proofs.Tells.{tells-passed}
 use Rattle.rules.specs.Limits.{rowNumbers}
 use Rattle.rules.specs.Kinds.{known}
 use Rattle.rules.specs.Rows.{numbersAt}
@@ -18,8 +19,8 @@ use Rattle.rules.specs.Refusals.{Refused}
 use Rattle.rules.specs.Stretches.{width, offset}
 use Rattle.rules.specs.Table.{lengthPasses, rowPasses, limitsPass, faultOf, firstFault, refusedBy, checkOf}
 use Rattle.rules.specs.declared.numbers.Numbers.{Numbers}
-use Rattle.rules.proofs.TableLaws.{Reached, fieldFits, field-told, row-passes, row-unknown, row-unfit, fault-row, fault-limits, fault-none, refused-at, passed-at, reached-more, refused-length, length-told}
-use Rattle.rules.proofs.PassedLaws.{in-range, rows-good, width-most, offset-most}
+use Rattle.rules.proofs.TableLaws.{fieldFits, field-told, row-passes, row-unknown, row-unfit, fault-row, fault-limits, fault-none, whole-rows-told, SoFar, refused-at, passed-at, next-passes, refused-length}
+use Rattle.rules.proofs.PassedLaws.{range-told, rows-good, width-most, offset-most}
 use Rattle.rules.proofs.table.check.Statement.{statement}
 use Rattle.rules.proofs.table.check.Tie as tie
 
@@ -31,7 +32,7 @@ abbrev μ-fields : tie.MeasureT-fields
 μ-fields table rows need row found line field₀ field = rowNumbers - field
 
 abbrev Inv-rows : tie.InvT-rows
-Inv-rows table rows need₀ row₀ need row = Reached table need row
+Inv-rows table rows need₀ row₀ need row = SoFar table need row
 
 abbrev μ-rows : tie.MeasureT-rows
 μ-rows table rows need₀ row₀ need row = rows - row
@@ -99,9 +100,9 @@ rows-holds c =
     let size : lengthPasses (length (c .before .before .before .args .table .now)) ≡ true = sym (c .before .length-passes .ensures) ∙ not-false _ (c .if1 .left) in
     record {
       size = size;
-      whole = length-told _ size;
+      whole = tells-passed (whole-rows-told _) size;
       within = omega arith;
-      so-far = refl;
+      needed = refl;
       good = refl;
     }
 
@@ -172,11 +173,11 @@ words-requires c κs = tt
 
 add-need : tie.Need-add-need Inv-fields μ-fields Inv-rows μ-rows
 add-need c =
-    let reached = row-of (c .before .before) .before .before .rows .inv in
+    let before = row-of (c .before .before) .before .before .rows .inv in
     omega (
       arith,
-      offset-most _ _ (rows-good _ _ (reached .good)),
-      width-most (row-of (c .before .before) .numbers-at .result) (in-range _ _ (sym (c .before .before .limits-pass .ensures) ∙ not-false _ (c .before .if5 .left))),
+      offset-most _ _ (rows-good _ _ (before .good)),
+      width-most (row-of (c .before .before) .numbers-at .result) (tells-passed (range-told _ _) (sym (c .before .before .limits-pass .ensures) ∙ not-false _ (c .before .if5 .left))),
     )
 
 add-row : tie.Need-add-row Inv-fields μ-fields Inv-rows μ-rows
@@ -187,7 +188,7 @@ rows-less c = omega arith
 
 rows-again : tie.Need-rows-again Inv-fields μ-fields Inv-rows μ-rows
 rows-again c =
-    reached-more _ _ _ (row-of (c .before .before) .before .before .rows .inv) _
+    next-passes _ _ _ (row-of (c .before .before) .before .before .rows .inv) _
     (row-of (c .before .before) .before .if2 .left)
     (fault-none _ _ (all-fit (c .before .before)) (sym (limits-told (c .before .before)) ∙ not-false _ (c .before .if5 .left)))
     (c .words .ensures ∙ ap width (row-of (c .before .before) .numbers-at .ensures))
