@@ -134,15 +134,17 @@ append-written {before} {words} {held} {S} first last read room =
     let more : length (S ++ (s ∷ [])) ≡ length S + 1 = length-append S (s ∷ []) in
     let all : fitting before (S ++ (s ∷ [])) ≡ S ++ (s ∷ []) = fitting-all before (S ++ (s ∷ [])) (omega arith) in
     let place : 2 * (length S + 1) ≡ suc (suc (2 * length S)) = omega arith in
-    let free : drop (2 * length S) before ≡ getD before (2 * length S) 0 ∷ getD before (suc (2 * length S)) 0 ∷ drop (suc (suc (2 * length S))) before =
+    let a : ℕ = getD before (2 * length S) 0 in
+    let b : ℕ = getD before (suc (2 * length S)) 0 in
+    let free : drop (2 * length S) before ≡ a ∷ b ∷ drop (suc (suc (2 * length S))) before =
     drop-cons before (2 * length S) 0 (omega arith)
-    ∙ ap (λ (l : List ℕ). getD before (2 * length S) 0 ∷ l) (drop-cons before (suc (2 * length S)) 0 (omega arith))
+    ∙ ap (λ (l : List ℕ). a ∷ l) (drop-cons before (suc (2 * length S)) 0 (omega arith))
     in
     record {
       written =
           rw
           (all, read .written, count, free, more, place, words-after S first (endAt last), word-back last)
-          (written-after S (getD before (2 * length S) 0) (getD before (suc (2 * length S)) 0) first last (drop (suc (suc (2 * length S))) before));
+          (written-after S a b first last (drop (suc (suc (2 * length S))) before));
       counted = rw (all, more, count) refl;
     }
 

@@ -57,8 +57,8 @@ zeros? (word ∷ words) = eqb word 0 && zeros? words
 abbrev pub laid? : List ℕ → Held → Bool
 laid? words held = leb (2 * held .count) (length words) && zeros? (drop (2 * held .count) words)
 
--- Of any words at all: as many of the spans as the words have room for; the spans S written from the start, later words left; and the words of so
--- many spans freed.
+-- For any words at all: as many of the spans as the words have room for; the spans S written from the start, later words left as they are; the
+-- words of so many spans freed.
 abbrev pub fitting : List ℕ → List Span → List Span
 fitting words S = take (length words / 2) S
 

@@ -28,7 +28,7 @@ spansIn words held = fitting words (spansHeld words held)
 abbrev pub spansUpdated : List ℕ → Held → (x y : Bool) → ℕ → Span → List Span
 spansUpdated words held x y t s = fitting words (update x y t s (spansIn words held))
 
--- The spans S stand over words, and what is held says so.
+-- The spans S written over words, and what is held of them.
 pub record Written (words after : List ℕ) (held : Held) (S : List Span) : Type 0 where
   pub written : after ≡ over words S
   pub counted : held .count ≡ length S

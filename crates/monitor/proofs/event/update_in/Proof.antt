@@ -1,4 +1,5 @@
--- `monitor::event::update_in` meets its contract: what `update` leaves of a packed part that has room (`update-laid`), said of the store (`post-is`). Assumes nothing.
+-- `monitor::event::update_in` meets its contract: what `update` leaves of a packed part that has room (`update-laid`), said of
+-- the store (`post-is`). Assumes nothing.
 use mathlib.Core.Path.{_≡_}
 use Prim.Native.Nat.{_*_, _-_, _≤_}
 use borrow.Author.Needs.{needs}

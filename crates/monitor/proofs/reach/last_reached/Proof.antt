@@ -20,7 +20,8 @@ add-result c = search needs
 returns-2 : tie.Need-returns-2
 returns-2 c =
     let start = c .before .before .before in
-    summed (start .args .time) (start .pre) (start .fits .b .fits) (sym (c .before .before .has-no-end .ensures) ∙ c .before .if1 .left) (c .wide .ensures)
+    let ended = sym (c .before .before .has-no-end .ensures) ∙ c .before .if1 .left in
+    summed (start .args .time) (start .pre) (start .fits .b .fits) ended (c .wide .ensures)
 
 pub last-reached-spec : {M : Type 1} → statement M
 last-reached-spec = tie.close (tie.spec has-no-end-requires returns wide-requires add-result returns-2)

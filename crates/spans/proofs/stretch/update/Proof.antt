@@ -22,7 +22,8 @@ join-or-not-requires c κs =
     let fit = kept .before .before in
     let args = fit .before .before .before .args in
     let room =
-    kept-room (args .words .now) _ (fit .fit .result) _ (args .keep) (args .time) (fit .fit .ensures .0) (kept .clip-or-clear .ensures) (same-kept kept)
+    kept-room (args .words .now) _ (fit .fit .result) _ (args .keep) (args .time) (fit .fit .ensures .0) (kept .clip-or-clear .ensures)
+    (same-kept kept)
     in
     omega (arith, room, same-kept kept)
 
@@ -32,8 +33,8 @@ cover-requires c κs =
     let kept = fed .before .before .before .before in
     let fit = kept .before .before in
     let args = fit .before .before .before .args in
-    fed-room (args .words .now) _ (fit .fit .result) _ (args .keep) (args .time) (fit .fit .ensures .0) (kept .clip-or-clear .ensures) (same-kept kept)
-    (args .feed) (args .first) (args .last) (fed .join-or-not .ensures) (fed .join-or-not .kept .0)
+    fed-room (args .words .now) _ (fit .fit .result) _ (args .keep) (args .time) (fit .fit .ensures .0) (kept .clip-or-clear .ensures)
+    (same-kept kept) (args .feed) (args .first) (args .last) (fed .join-or-not .ensures) (fed .join-or-not .kept .0)
 
 same-length : tie.Need-same-length
 same-length c = search needs
@@ -44,8 +45,8 @@ returns c =
     let kept = fed .before .before .before .before in
     let fit = kept .before .before in
     let args = fit .before .before .before .args in
-    updated-to (args .words .now) _ (fit .fit .result) _ (args .keep) (args .time) (fit .fit .ensures .0) (kept .clip-or-clear .ensures) (same-kept kept)
-    (args .feed) (args .first) (args .last) (fed .join-or-not .ensures) (fit .fit .ensures .1) (c .cover .ensures)
+    updated-to (args .words .now) _ (fit .fit .result) _ (args .keep) (args .time) (fit .fit .ensures .0) (kept .clip-or-clear .ensures)
+    (same-kept kept) (args .feed) (args .first) (args .last) (fed .join-or-not .ensures) (fit .fit .ensures .1) (c .cover .ensures)
 
 pub update-spec : {M : Type 1} → statement M
 update-spec = tie.close (tie.spec fit-requires clip-or-clear-requires join-or-not-requires cover-requires same-length returns)
