@@ -1,12 +1,12 @@
 -- One byte after another: what is still to come of a piece, from turn to turn of the loop over its bytes.
 use mathlib.Core.Bool.{Bool, true, false, _&&_}
-use mathlib.Core.List.{List, [], _++_}
+use mathlib.Core.List.{List, [], _∷_, _++_}
 use mathlib.Core.Path.{_≡_, refl, sym, ap, _∙_}
 use Prim.Native.Nat.{ℕ, _+_, _-_, _*_, _≤_, _<_}
 use native.Mathlib.Omega.{arith}
 use native.Mathlib.Numerals.{add-one}
 use borrow.Author.Tests.{le-leb, leb-true, lt-ltb, le-ltb, eq-eqb, ne-eqb}
-use lib.Dec.{leb, eqb}
+use lib.Dec.{leb, ltb, eqb}
 use lib.ListN.{length, drop, length-append, drop-of-length-le}
 use lib.Seq.{drop-cons}
 use Rattle.rules.specs.Limits.{rowLimit, rowNumbers}
@@ -19,6 +19,7 @@ use Rattle.text.specs.declared.turn.Told.{Told}
 use Rattle.text.specs.Held.{heldLine, holding, emptied}
 use Rattle.text.specs.Turn.{Desk, Turn, desk, turnOf, Turned}
 use Rattle.text.specs.Feed.{Memory, lineEnd, byteLeaves, byteText, Feeding, noFeeding, andThen, feed, ready?, stepOf, stateIn, Stepped}
+use Rattle.lines.proofs.Tests.{by-test}
 use Rattle.lines.proofs.OverLaws.{over-over, over-none, over-fits}
 use Rattle.text.proofs.WroteLaws.{wrote-none}
 use Rattle.text.proofs.TurnLaws.{turn-rows}
@@ -45,7 +46,8 @@ owing-none whole before m out used wrote o =
     )
 
 -- What is ready, and what is not: it is left as it is.
-pub ready-parts : (rows size : ℕ) → (leb rows rowLimit && leb (rowLimit * rowNumbers) size) ≡ true → (rows ≤ rowLimit) × (rowLimit * rowNumbers ≤ size)
+pub ready-parts : (rows size : ℕ) → (leb rows rowLimit && leb (rowLimit * rowNumbers) size) ≡ true
+    → (rows ≤ rowLimit) × (rowLimit * rowNumbers ≤ size)
 ready-parts rows size both =
     let few : Bool = leb rows rowLimit in
     let room : Bool = leb (rowLimit * rowNumbers) size in
@@ -100,6 +102,24 @@ owing-on whole before m piece out used wrote out′ wrote′ o more free w same 
       bytes-written = omega arith;
       text = rw (w .bytes, at) (over-over out wrote (omega arith) text (rest .text)) ∙ now .text;
     })
+
+-- No piece brings more rows than a table may have.
+byte-rows : (m : Memory) (byte : ℕ) → m .desk .stage .rows ≤ rowLimit → byteLeaves m byte .desk .stage .rows ≤ rowLimit
+unfolding byteLeaves
+byte-rows m byte most =
+    by-test (eqb byte lineFeed) (λ ends. rw ends (turn-rows (m .desk) (heldLine (holding (m .held) byte)) most)) (λ other. rw other most)
+
+feed-rows : (m : Memory) (room : ℕ) (piece : List ℕ) → m .desk .stage .rows ≤ rowLimit → feed m room piece .left .desk .stage .rows ≤ rowLimit
+unfolding feed
+feed-rows m room [] most = most
+feed-rows m room (byte ∷ piece) most =
+    by-test (ltb room longestReply) (λ full. rw full most)
+    (λ free. rw free (feed-rows (byteLeaves m byte) (room - length (byteText m byte)) piece (byte-rows m byte most)))
+
+pub step-rows : (m : Memory) (room : ℕ) (piece : List ℕ) → m .desk .stage .rows ≤ rowLimit → stepOf m room piece .left .desk .stage .rows ≤ rowLimit
+unfolding stepOf
+step-rows m room piece most =
+    by-test (ready? m) (λ ready. rw ready (feed-rows m room piece most)) (λ not. rw not most)
 
 -- What holds from turn to turn of the loop.
 pub record Going (first : Memory) (piece before : List ℕ) (m : Memory) (out : List ℕ) (used wrote : ℕ) : Type 0 where

@@ -2,4 +2,5 @@
 pub mod WroteLaws
 pub mod TurnLaws
 pub mod FeedLaws
+pub mod ShortLaws
 pub mod Outcomes

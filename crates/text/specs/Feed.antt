@@ -78,8 +78,8 @@ fresh =
       stage = staged Rules 0 (nothingSeen 0);
     }
 
--- "a 65th line before the empty one EE0100, whatever it holds; a line cut off by the text's end is a bad line; text that ends at a line's start before
--- the empty line EE0800".
+-- "a 65th line before the empty one EE0100, whatever it holds; a line cut off by the text's end is a bad line; text that ends at a line's start
+-- before the empty line EE0800".
 abbrev pub endText : Part → ℕ → ℕ → List ℕ
 endText Rules rows count =
     cond (eqb count 0) (refusedLine (refused Line))

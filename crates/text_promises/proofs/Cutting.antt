@@ -26,9 +26,9 @@ use Rattle.text.specs.Turn.{Desk, beforeFrames, turnIn, turnOf}
 use Rattle.text.specs.Feed.{Memory, byteLeaves, byteText, feed, memoryOf, stateIn, fresh, endText, endOf}
 use Rattle.text_promises.specs.Cutting.{Lent, course, EveryCutting, joined, Roomy, EveryByteTaken, SomeByteTaken}
 use Rattle.text.proofs.FeedLaws.{step-ready}
+use Rattle.text.proofs.ShortLaws.{feed-all}
 use Rattle.text_promises.proofs.HeldLaws.{HoldsLine, holds-line, holds-none, holds-more}
 use Rattle.text_promises.proofs.OwedLaws.{owedIn, owed, Right, rows-read, turn-owed, turn-right}
-use Rattle.text_promises.proofs.ShortLaws.{byte-short}
 
 -- The unfinished line after a text that goes on from one.
 unfoldable unfinished : List ℕ → List ℕ → List ℕ
@@ -184,16 +184,6 @@ every-cutting table room lents =
     ∙ sym (share .text-owed [])
     ∙ ap (toCome m []) (append-nil (course m lents .taken))
     ∙ fresh-owed table (course m lents .taken)
-
--- A byte needs no more room than the longest line.
-feed-all : (m : Memory) (room : ℕ) (piece : List ℕ) → longestReply * length piece ≤ room → feed m room piece .used ≡ length piece
-unfolding feed
-feed-all m room [] roomy = refl
-feed-all m room (byte ∷ piece) roomy =
-    let short : length (byteText m byte) ≤ longestReply = byte-short m byte in
-    let free : ltb room longestReply ≡ false = le-ltb room longestReply (omega arith) in
-    let rest : feed (byteLeaves m byte) (room - length (byteText m byte)) piece .used ≡ length piece = feed-all (byteLeaves m byte) (room - length (byteText m byte)) piece (omega arith) in
-    rw free (omega arith)
 
 course-all : (m : Memory) (line : List ℕ) (lents : List Lent) → Stands m line → Roomy lents → course m lents .taken ≡ joined lents
 unfolding course

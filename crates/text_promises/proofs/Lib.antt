@@ -2,7 +2,6 @@
 pub mod Places
 pub mod HeldLaws
 pub mod OwedLaws
-pub mod ShortLaws
 pub mod Cutting
 pub mod Meaning
 pub mod WholeCase

@@ -1,4 +1,5 @@
--- A text read by places says what its lines say: the place after a reading is past the line's end, and what is read there is what the line alone says.
+-- A text read by places says what its lines say: the place after a reading is past the line's end, and what is read of a line there is what is read
+-- of it alone.
 use mathlib.Core.List.{List, [], _∷_, _++_, map, append-assoc}
 use mathlib.Core.Path.{_≡_, refl, sym, ap, _∙_}
 use Prim.Native.Nat.{ℕ, zero, suc, _+_, _≤_, _<_}

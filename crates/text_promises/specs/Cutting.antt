@@ -53,7 +53,11 @@ Roomy [] = Unit
 Roomy (lent ∷ more) = (longestReply * length (lent .piece) ≤ lent .room) × Roomy more
 
 abbrev pub EveryByteTaken : Type 0
-EveryByteTaken = (table : List ℕ) → rowLimit * rowNumbers ≤ length table → (lents : List Lent) → Roomy lents → courseOf table lents .taken ≡ joined lents
+EveryByteTaken = (table : List ℕ)
+    → rowLimit * rowNumbers ≤ length table
+    → (lents : List Lent)
+    → Roomy lents
+    → courseOf table lents .taken ≡ joined lents
 
 -- Where there is room for one line, a piece that is not empty is not taken in vain.
 abbrev pub SomeByteTaken : Type 0

@@ -1,5 +1,5 @@
--- `text::feed::feed` meets its contract. The loop over the bytes: what is left to do, after what was used and written, is all there was to do (`Going`).
--- The measure is what is left of the piece. Assumes nothing.
+-- `text::feed::feed` meets its contract. The loop over the bytes: what is left to do, after what was used and written, is all there was to do
+-- (`Going`). The measure is what is left of the piece. Assumes nothing.
 use mathlib.Core.List.{List}
 use Prim.Native.Nat.{ℕ, _-_, _*_, _≤_}
 use native.Mathlib.Omega.{arith}

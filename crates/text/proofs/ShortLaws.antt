@@ -1,11 +1,14 @@
--- No line that is written is longer than the longest, whatever a line brings.
+-- No line that is written is longer than the longest: a piece with room for a line a byte is taken whole.
 use mathlib.Core.Option.{Option, none, some}
-use mathlib.Core.List.{List}
-use Prim.Native.Nat.{ℕ, _+_, _≤_, _<_}
+use mathlib.Core.Bool.{false}
+use mathlib.Core.List.{List, [], _∷_}
+use mathlib.Core.Path.{_≡_, refl}
+use Prim.Native.Nat.{ℕ, _+_, _-_, _*_, _≤_, _<_}
 use native.Mathlib.Omega.{arith}
-use lib.Dec.{leb, eqb}
+use borrow.Author.Tests.{le-ltb}
+use lib.Dec.{leb, ltb, eqb}
 use lib.ListN.{length, length-append}
-use Rattle.rules.specs.Limits.{rowLimit}
+use Rattle.rules.specs.Limits.{rowLimit, rowNumbers}
 use Rattle.rules.specs.Refusals.{Refused, refused}
 use Rattle.rules.specs.Stretches.{needOf}
 use Rattle.rules.specs.declared.refusal.Refusal.the-variants.{Length}
@@ -19,14 +22,15 @@ use Rattle.lines.proofs.WriteLaws.{length-digits}
 use Rattle.monitor.specs.Start.{startOf}
 use Rattle.monitor.specs.Step.{Reply}
 use Rattle.monitor.specs.Step as step
 use Rattle.text.specs.declared.state.Part.{Part}
 use Rattle.text.specs.declared.state.Part.the-variants.{Rules, Frames, Over}
 use Rattle.text.specs.Replies.{needDigits, timeDigits, longestReply, replyLine, verdictNumber, refusalLine, refusedLine}
 use Rattle.text.specs.Transcript.{Running, judged, frameOf, replyOf, frameReply}
 use Rattle.text.specs.Held.{heldLine, holding}
 use Rattle.text.specs.Turn.{Desk, rowsRead, runningAt, startText, ruleTurn, beforeFrames, turnIn}
-use Rattle.text.specs.Feed.{Memory, byteText}
+use Rattle.text.specs.Feed.{Memory, byteLeaves, byteText, feed, stepOf}
 use Rattle.text.proofs.WroteLaws.{length-reply}
+use Rattle.text.proofs.FeedLaws.{step-ready}
 
 reply-short : (n first m second : ℕ) → n + m < longestReply → length (replyLine n first m second) ≤ longestReply
 reply-short n first m second fits = rw length-reply (omega arith)
@@ -65,8 +69,22 @@ turn-short-in Rules d line =
 turn-short-in Frames d line = frame-short (runningAt d) (readFrame line 0 .said)
 turn-short-in Over d line = omega arith
 
-pub byte-short : (m : Memory) (byte : ℕ) → length (byteText m byte) ≤ longestReply
+byte-short : (m : Memory) (byte : ℕ) → length (byteText m byte) ≤ longestReply
 unfolding byteText
 byte-short m byte =
     by-test (eqb byte lineFeed) (λ ends. rw ends (turn-short-in (m .desk .stage .part) (m .desk) (heldLine (holding (m .held) byte))))
     (λ other. rw other (omega arith))
+
+-- A byte needs no more room than the longest line.
+pub feed-all : (m : Memory) (room : ℕ) (piece : List ℕ) → longestReply * length piece ≤ room → feed m room piece .used ≡ length piece
+unfolding feed
+feed-all m room [] roomy = refl
+feed-all m room (byte ∷ piece) roomy =
+    let short : length (byteText m byte) ≤ longestReply = byte-short m byte in
+    let free : ltb room longestReply ≡ false = le-ltb room longestReply (omega arith) in
+    let rest : feed (byteLeaves m byte) (room - length (byteText m byte)) piece .used ≡ length piece = feed-all (byteLeaves m byte) (room - length (byteText m byte)) piece (omega arith) in
+    rw free (omega arith)
+
+pub step-all : (m : Memory) (room : ℕ) (piece : List ℕ) → m .desk .stage .rows ≤ rowLimit → rowLimit * rowNumbers ≤ length (m .desk .table)
+    → longestReply * length piece ≤ room → stepOf m room piece .used ≡ length piece
+step-all m room piece rows size roomy = rw (step-ready m room piece rows size) (feed-all m room piece roomy)
