@@ -81,12 +81,15 @@ pub said-held : (widths : List ℕ) (limit : ℕ) (line : List ℕ) → digitsOf
 said-held widths limit line within =
     let same : (i : ℕ) → i < limit → byteAt (take limit line) (0 + i) ≡ byteAt line i =
     λ i below. let start : 0 + i ≡ i = omega arith in rw start (getD-take limit line i 0 below) in
-    rw (line-agree (take limit line) line 0 limit same (bytesOf widths) within (ends limit line (omega arith)), numbers-agree (take limit line) line 0 limit same 0 widths (omega arith))
+    let lines : lineAt (take limit line) 0 (bytesOf widths) ≡ lineAt line 0 (bytesOf widths) =
+    line-agree (take limit line) line 0 limit same (bytesOf widths) within (ends limit line (omega arith)) in
+    rw (lines, numbers-agree (take limit line) line 0 limit same 0 widths (omega arith))
   where
     ends : (limit : ℕ) (line : List ℕ) → 0 < limit → leb (length (take limit line)) 0 ≡ leb (length line) 0
     ends zero line some = absurd (omega arith)
     ends (suc limit) [] some = refl
-    ends (suc limit) (byte ∷ bytes) some = lt-leb (suc (length (take limit bytes))) 0 (omega arith) ∙ sym (lt-leb (suc (length bytes)) 0 (omega arith))
+    ends (suc limit) (byte ∷ bytes) some =
+        lt-leb (suc (length (take limit bytes))) 0 (omega arith) ∙ sym (lt-leb (suc (length bytes)) 0 (omega arith))
 
 -- What is not as required is a bad line.
 said-bad : (widths text : List ℕ) (place : ℕ) → place < length text

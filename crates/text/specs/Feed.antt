@@ -64,6 +64,7 @@ ready? m = leb (m .desk .stage .rows) rowLimit && leb (rowLimit * rowNumbers) (l
 unfoldable pub stepOf : Memory → ℕ → List ℕ → Feeding
 stepOf m room piece = cond (ready? m) (feed m room piece) (noFeeding m)
 
+-- A state with what is lent, and the state in it.
 abbrev pub memoryOf : State → List ℕ → List ℕ → Memory
 memoryOf state table store = record { held = state .held; desk = record { stage = state .stage; table = table; store = store } }
 

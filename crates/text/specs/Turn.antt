@@ -98,6 +98,7 @@ startTurn d start =
       text = startText (needOf (rowsRead d)) (start .refusal);
     }
 
+-- The empty line: the monitor starts on the rows read.
 abbrev pub emptyTurn : Desk → Turn
 emptyTurn d = startTurn d (startOf (rowsRead d) (d .store))
 
