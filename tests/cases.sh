@@ -1,5 +1,6 @@
 #!/usr/bin/env bash
-# The text program on every case of tests/cases/, whole, cut into pieces, and line by line. The program is built first, where it is not as its sources are.
+# The text program on every case of tests/cases/, and on a text of short lines that is longer than a piece: whole, cut into pieces, and line by line.
+# The program is built first, where it is not as its sources are.
 set -u
 cd "$(dirname "$0")/.." || exit 2
 
@@ -11,4 +12,21 @@ said=$(rt check muktrashi 2>&1) || {
     printf "cases.sh: 'rt check muktrashi' failed:\n%s\n" "$said" >&2
     exit 1
 }
-exec python3 tests/cases.py tests/cases tools/run muktrashi
+work=$(mktemp -d) || exit 2
+trap 'rm -rf "$work"' EXIT
+
+# One rule, the empty line and 5,000 line feeds: as many replies as bytes, for more bytes than the program reads at once.
+{
+    printf '000000000000000000000000\n\n'
+    yes '' | head -n 5000
+} >"$work/line-feeds.in"
+{
+    printf '00000000\n'
+    yes EE0800 | head -n 5000
+} >"$work/line-feeds.out"
+
+failures=0
+for folder in tests/cases "$work"; do
+    python3 tests/cases.py "$folder" tools/run muktrashi || failures=1
+done
+exit "$failures"

@@ -1,14 +1,15 @@
 -- Which bytes are digits, how large their values are, and one turn of counting them.
 use mathlib.Core.Bool.{true, false}
 use mathlib.Core.List.{List}
-use mathlib.Core.Path.{_≡_, _∙_}
+use mathlib.Core.Path.{_≡_, sym, _∙_}
 use Prim.Native.Nat.{ℕ, zero, suc, _+_, _-_, _^_, _≤_, _<_}
 use native.Mathlib.Nat.{pow-suc, pow-le-pow-right}
 use native.Mathlib.Omega.{arith}
 use borrow.Author.Tests.{leb-true, leb-false, le-leb, lt-leb}
 use lib.Dec.{leb, lit<}
 use Rattle.lines.specs.Digits.{byteAt, byte0, byte9, byteA, byteF, isDigit, digitValue, digitsAt, hexAt}
-use Rattle.lines.proofs.Tests.{by-test, clash}
+use Rattle.rules.proofs.Truths.{no-truth}
+use Rattle.lines.proofs.Tests.{by-test}
 
 module _ (byte : ℕ) where
   pub digit-below : byte < byte0 → isDigit byte ≡ false
@@ -36,9 +37,9 @@ pub record DigitRange (byte : ℕ) : Type 0 where
 pub digit-range : (byte : ℕ) → isDigit byte ≡ true → DigitRange byte
 digit-range byte is =
     record {
-      low = by-test (leb byte0 byte) (leb-true byte0 byte) (λ no. absurd (clash is (digit-below byte (leb-false byte0 byte no))));
-      high = by-test (leb byte byteF) (leb-true byte byteF) (λ no. let low : byteF < byte = leb-false byte byteF no in absurd (clash is (digit-letter byte (omega arith) ∙ no)));
-      letter = λ above. by-test (leb byteA byte) (leb-true byteA byte) (λ no. absurd (clash is (digit-between byte above (leb-false byteA byte no))));
+      low = by-test (leb byte0 byte) (leb-true byte0 byte) (λ no. absurd (no-truth (sym (digit-below byte (leb-false byte0 byte no)) ∙ is)));
+      high = by-test (leb byte byteF) (leb-true byte byteF) (λ no. let low : byteF < byte = leb-false byte byteF no in absurd (no-truth (sym (digit-letter byte (omega arith) ∙ no) ∙ is)));
+      letter = λ above. by-test (leb byteA byte) (leb-true byteA byte) (λ no. absurd (no-truth (sym (digit-between byte above (leb-false byteA byte no)) ∙ is)));
     }
 
 pub digitValue-below : (byte : ℕ) → digitValue byte < 16

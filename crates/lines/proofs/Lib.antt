@@ -1,7 +1,9 @@
 -- Laws of the definitions in specs/; the proofs of the functions stand in the folders beside them.
 pub mod Tests
 pub mod DigitLaws
+pub mod OverLaws
 pub mod WriteLaws
 pub mod LineLaws
 pub mod ReadLaws
+pub mod AgreeLaws
 pub mod Outcomes

@@ -1,5 +1,5 @@
 -- One turn of looking for a line feed, how large a sum is, and the place after any line.
-use mathlib.Core.Bool.{_&&_}
+use mathlib.Core.Bool.{Bool, _&&_}
 use mathlib.Core.List.{List}
 use mathlib.Core.Path.{_≡_, sym, _∙_}
 use Prim.Native.Nat.{ℕ, zero, suc, _+_, _*_, _%_, _≤_, _<_}
@@ -10,7 +10,8 @@ use lib.ListN.{length, drop-of-length-le, List·getD-eq-default}
 use lib.Seq.{drop-cons}
 use Rattle.lines.specs.Digits.{byteAt, isDigit, digitsAt, hexAt}
 use Rattle.lines.specs.Line.{lineFeed, rightAt, sumAt, pastFirst, pastLineFeed, digitsOf, lineAt, nextPlace}
-use Rattle.lines.proofs.Tests.{by-test, and-true}
+use Rattle.rules.proofs.Truths.{and-left, and-right}
+use Rattle.lines.proofs.Tests.{by-test}
 use Rattle.lines.proofs.DigitLaws.{DigitRange, digit-range, hexAt-below, digitsAt-most}
 
 module _ (text : List ℕ) (place : ℕ) where
@@ -68,13 +69,14 @@ past-digits text place (suc n) all fed =
     first ∙ rw on (after ∙ omega arith))
     (λ not. let none : 0 ≡ suc n = rw not at all in absurd (omega arith))
 
-past-right : (text : List ℕ) (place n : ℕ) → rightAt text place n ≡ n + 1 → pastLineFeed text place ≡ place + (n + 1)
+pub past-right : (text : List ℕ) (place n : ℕ) → rightAt text place n ≡ n + 1 → pastLineFeed text place ≡ place + (n + 1)
 unfolding rightAt
 past-right text place n right =
     by-test (eqb (digitsAt text place n) n && eqb (byteAt text (place + n)) lineFeed)
     (λ all.
-    let parts = and-true (eqb (digitsAt text place n) n) (eqb (byteAt text (place + n)) lineFeed) all in
-    past-digits text place n (eqb-true _ _ (parts .0)) (eqb-true _ _ (parts .1)))
+    let digits : Bool = eqb (digitsAt text place n) n in
+    let fed : Bool = eqb (byteAt text (place + n)) lineFeed in
+    past-digits text place n (eqb-true _ _ (and-left digits fed all)) (eqb-true _ _ (and-right digits fed all)))
     (λ not.
     let fewer : digitsAt text place n ≡ n + 1 = rw not at right in
     let most : digitsAt text place n ≤ n = digitsAt-most text place n in

@@ -3,9 +3,10 @@ use mathlib.Core.List.{List, _++_, append-assoc}
 use mathlib.Core.Path.{_≡_, refl}
 use Prim.Native.Nat.{ℕ, zero, suc, _+_, _/_, _%_, _<_}
 use native.Mathlib.Omega.{arith}
-use lib.ListN.{length, take, drop, set, length-append, length-set, take-append-drop}
+use lib.ListN.{length, take, drop, set, length-append, length-set}
 use lib.Seq.{drop-cons, take-set-le, drop-set-lt, getD-set-same}
 use Rattle.lines.specs.Digits.{digits, digitByte, over}
+use Rattle.lines.proofs.OverLaws.{over-none}
 
 pub length-digits : (n value : ℕ) → length (digits n value) ≡ n
 unfolding digits
@@ -34,4 +35,4 @@ module _ (out : List ℕ) (place n value : ℕ) where
 -- Nothing is left: the bytes are as they should be.
 pub none-left : (out : List ℕ) (place value : ℕ) → leftOver out place 0 value ≡ out
 unfolding digits
-none-left out place value = let same : place + 0 ≡ place = omega arith in rw same (take-append-drop place out)
+none-left out place value = over-none out place

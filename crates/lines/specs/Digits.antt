@@ -30,6 +30,13 @@ base = 16
 abbrev pub valueA : ℕ
 valueA = 10
 
+-- A byte is two digits and has 256 values.
+abbrev pub byteDigits : ℕ
+byteDigits = 2
+
+abbrev pub byteValues : ℕ
+byteValues = 256
+
 unfoldable pub isDigit : ℕ → Bool
 isDigit byte = (leb byte0 byte && leb byte byte9) || (leb byteA byte && leb byte byteF)
 

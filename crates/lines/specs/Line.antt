@@ -7,7 +7,7 @@ use lib.ListN.{length, drop}
 use Rattle.rules.specs.declared.refusal.Refusal.the-variants as refusal
 use Rattle.lines.specs.declared.line.Line.{Line}
 use Rattle.lines.specs.declared.line.Line.the-variants.{End, Good, Refused}
-use Rattle.lines.specs.Digits.{byteAt, digitsAt, hexAt}
+use Rattle.lines.specs.Digits.{byteAt, byteDigits, byteValues, digitsAt, hexAt}
 
 abbrev pub lineFeed : ℕ
 lineFeed = 10
@@ -18,29 +18,30 @@ unfoldable pub rightAt : List ℕ → ℕ → ℕ → ℕ
 rightAt text place n =
     cond (eqb (digitsAt text place n) n && eqb (byteAt text (place + n)) lineFeed) (n + 1) (digitsAt text place n)
 
--- The sum of the n bytes whose digits begin at a place, two digits a byte.
+-- The sum of the n bytes whose digits begin at a place.
 unfoldable pub sumAt : List ℕ → ℕ → ℕ → ℕ
 sumAt text place zero = 0
-sumAt text place (suc n) = sumAt text place n + hexAt text (place + 2 * n) 2
+sumAt text place (suc n) = sumAt text place n + hexAt text (place + byteDigits * n) byteDigits
 
--- "it moves past the first line feed at or after it, or to the end if there is none".
+-- How many bytes up to and with the first line feed; all where there is none.
 unfoldable pub pastFirst : List ℕ → ℕ
 pastFirst [] = 0
 pastFirst (byte ∷ bytes) = cond (eqb byte lineFeed) 1 (suc (pastFirst bytes))
 
+-- "it moves past the first line feed at or after it, or to the end if there is none".
 unfoldable pub pastLineFeed : List ℕ → ℕ → ℕ
 pastLineFeed text place = place + pastFirst (drop place text)
 
 -- The digits of n data bytes and of the sum byte.
 abbrev pub digitsOf : ℕ → ℕ
-digitsOf n = 2 * n + 2
+digitsOf n = byteDigits * n + byteDigits
 
 -- What stands at a place. 8: "place before the end, but no 14 digits 0-9 A-F and line feed there"; 9: "line well formed, its sum wrong".
 unfoldable pub lineAt : List ℕ → ℕ → ℕ → Line
 lineAt text place n =
     cond (leb (length text) place) End
     (cond (eqb (rightAt text place (digitsOf n)) (digitsOf n + 1))
-    (cond (eqb (sumAt text place n % 256) (hexAt text (place + 2 * n) 2)) Good (Refused refusal.Sum))
+    (cond (eqb (sumAt text place n % byteValues) (hexAt text (place + byteDigits * n) byteDigits)) Good (Refused refusal.Sum))
     (Refused refusal.Line))
 
 -- "A place at or past the end answers "end", place unchanged. After a good line the place moves 15. After 8 or 9 it moves past the first line feed".

@@ -5,7 +5,7 @@ use Rattle.rules.specs.Refusals as refusals
 use Rattle.rules.specs.Refusals.{refused}
 use Rattle.lines.specs.declared.line.Line.{Line}
 use Rattle.lines.specs.declared.line.Line.the-variants.{End, Good, Refused}
-use Rattle.lines.specs.Digits.{hexAt}
+use Rattle.lines.specs.Digits.{byteDigits, hexAt}
 use Rattle.lines.specs.Line.{lineAt, nextPlace}
 
 -- The end, the numbers of a line, or a refusal with the paper's number.
@@ -24,11 +24,11 @@ abbrev pub bytesOf : List ℕ → ℕ
 bytesOf [] = 0
 bytesOf (width ∷ widths) = width + bytesOf widths
 
--- The numbers of a line at a place, from an offset on, two digits a byte.
+-- The numbers of a line at a place, from an offset on.
 abbrev pub numbersAt : List ℕ → ℕ → ℕ → List ℕ → List ℕ
 numbersAt text place offset [] = []
 numbersAt text place offset (width ∷ widths) =
-    hexAt text (place + offset) (2 * width) ∷ numbersAt text place (offset + 2 * width) widths
+    hexAt text (place + offset) (byteDigits * width) ∷ numbersAt text place (offset + byteDigits * width) widths
 
 -- What is said of a line, given its numbers.
 abbrev pub saidOf : Line → List ℕ → Said
@@ -38,4 +38,8 @@ saidOf (Refused r) given = refusal (refused r)
 
 -- Reading a line whose numbers have these widths: what is said, and the next place.
 abbrev pub readLine : List ℕ → List ℕ → ℕ → Read
-readLine widths text place = record { said = saidOf (lineAt text place (bytesOf widths)) (numbersAt text place 0 widths); next = nextPlace (lineAt text place (bytesOf widths)) text place (bytesOf widths) }
+readLine widths text place =
+    record {
+      said = saidOf (lineAt text place (bytesOf widths)) (numbersAt text place 0 widths);
+      next = nextPlace (lineAt text place (bytesOf widths)) text place (bytesOf widths);
+    }

@@ -5,7 +5,7 @@ ghost use Prim.Native.Nat.{_+_, _≤_, _<_, _^_};
 ghost use Rattle.lines.specs.Digits.{byteAt, isDigit, digitValue, digitsAt, hexAt, digitByte, Written};
 
 // How many of the n bytes at a place are digits, before the first that is not or is missing.
-pub fn digits_at(text: &[u8], place: usize, n: usize) -> usize
+pub(crate) fn digits_at(text: &[u8], place: usize, n: usize) -> usize
     ensures { λ r. ⌜ r ≡ digitsAt (now (text .entry)) place n ⌝ }
 {
     let mut count = 0;

@@ -17,12 +17,13 @@ pub(crate) enum Line {
     Refused(Refusal),
 }
 
-// What a line of n data bytes at a place is, and the place after it.
+// What stands at a place, and the place to read at next.
 pub(crate) struct LineRead {
     pub line: Line,
     pub next: usize,
 }
 
+// A line of n data bytes read at a place: judged by form and sum, whatever its numbers are.
 pub(crate) fn read_line(text: &[u8], place: usize, n: usize) -> LineRead
     requires { ⌜ n < 2 ^ 16 ⌝ }
     ensures { λ r. ⌜ (r .line ≡ lineAt (now (text .entry)) place n) × (r .next ≡ nextPlace (r .line) (now (text .entry)) place n) ⌝ }

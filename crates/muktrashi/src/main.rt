@@ -1,10 +1,18 @@
 // The text program: standard input to standard output, nothing else (document 01, "The program's text"). It reads what is there, judges every
 // whole line, writes, and only then waits again. Its memory is fixed.
 
+ghost use mathlib.Core.Path.{_≡_};
+ghost use Prim.Native.Nat.{_*_, _≤_};
+ghost use lib.ListN.{length};
+ghost use Rattle.rules.specs.Limits.{rowLimit, rowNumbers};
+ghost use Rattle.text.specs.Replies.{longestReply};
+ghost use Rattle.text.specs.Transcript.{emptyStore};
+ghost use Rattle.text.specs.Feed.{memoryOf, Stepped};
 use libc::STDIN_FILENO;
 use libc::STDOUT_FILENO;
 use rules::limits::ROW_LIMIT;
 use rules::limits::ROW_NUMBERS;
+use text::feed::Fed;
 use text::feed::finish;
 use text::feed::step;
 use text::replies::LONGEST_REPLY;
@@ -16,7 +24,7 @@ const STORE_WORDS: usize = 8192;
 
 const PIECE_BYTES: usize = 4096;
 
-// Room for a line a byte: every byte of a piece is taken (`every-byte-taken` of the crate text).
+// Room for a line a byte, so that every piece is taken whole.
 const OUTPUT_BYTES: usize = PIECE_BYTES * LONGEST_REPLY;
 
 fn main() {
@@ -28,7 +36,9 @@ fn main() {
 }
 
 // A proved loop has to end, and nothing says that a text does: it counts its turns down, from a number that no run uses up.
-fn run(table: &mut [u32], store: &mut [u64], piece: &mut [u8], out: &mut [u8]) {
+fn run(table: &mut [u32], store: &mut [u64], piece: &mut [u8], out: &mut [u8])
+    requires { ⌜ (rowLimit * rowNumbers ≤ length (now table)) × (now store ≡ emptyStore) × (longestReply * length (now piece) ≤ length (now out)) ⌝ }
+{
     let mut state = fresh();
     let mut turns = u64::MAX;
     while turns > 0 {
@@ -39,7 +49,7 @@ fn run(table: &mut [u32], store: &mut [u64], piece: &mut [u8], out: &mut [u8]) {
             end(state, out);
             return;
         }
-        let fed = step(state, table, store, &piece[..n], out);
+        let fed = take_whole(state, table, store, &piece[..n], out);
         let wrote = fed.wrote;
         if !io::write_all(STDOUT_FILENO, &out[..wrote]) {
             return;
@@ -47,6 +57,20 @@ fn run(table: &mut [u32], store: &mut [u64], piece: &mut [u8], out: &mut [u8]) {
         let left = fed.state;
         state = left;
     }
+}
+
+// A step that leaves no byte of the piece: the output has room for a line a byte.
+fn take_whole(
+    state: State,
+    table: &mut [u32],
+    store: &mut [u64],
+    piece: &[u8],
+    out: &mut [u8],
+) -> Fed
+    requires { ⌜ (state .stage .rows ≤ rowLimit) × (rowLimit * rowNumbers ≤ length (now table)) × (longestReply * length (now piece) ≤ length (now out)) ⌝ }
+    ensures { λ r. ⌜ (r .used ≡ length (now (piece .entry))) × Stepped (memoryOf state (now (table .entry)) (now (store .entry))) (now (piece .entry)) (now (out .entry)) r (now (table .exit)) (now (store .exit)) (now (out .exit)) ⌝ }
+{
+    step(state, table, store, piece, out)
 }
 
 // A read that ends, or fails, is the text's end.

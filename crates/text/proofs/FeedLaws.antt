@@ -1,15 +1,16 @@
 -- One byte after another: what is still to come of a piece, from turn to turn of the loop over its bytes.
-use mathlib.Core.Bool.{true, false}
-use mathlib.Core.List.{List, [], _++_}
+use mathlib.Core.Bool.{Bool, true, false, _&&_}
+use mathlib.Core.List.{List, [], _∷_, _++_}
 use mathlib.Core.Path.{_≡_, refl, sym, ap, _∙_}
-use Prim.Native.Nat.{ℕ, _+_, _-_, _≤_, _<_}
+use Prim.Native.Nat.{ℕ, _+_, _-_, _*_, _≤_, _<_}
 use native.Mathlib.Omega.{arith}
 use native.Mathlib.Numerals.{add-one}
-use borrow.Author.Tests.{lt-ltb, le-ltb, eq-eqb, ne-eqb}
-use lib.Dec.{eqb}
+use borrow.Author.Tests.{le-leb, leb-true, lt-ltb, le-ltb, eq-eqb, ne-eqb}
+use lib.Dec.{leb, ltb, eqb}
 use lib.ListN.{length, drop, length-append, drop-of-length-le}
 use lib.Seq.{drop-cons}
-use Rattle.rules.specs.Limits.{rowLimit}
+use Rattle.rules.specs.Limits.{rowLimit, rowNumbers}
+use Rattle.rules.proofs.Truths.{and-left, and-right}
 use Rattle.lines.specs.Digits.{byteAt, over}
 use Rattle.lines.specs.Line.{lineFeed}
 use Rattle.text.specs.Replies.{longestReply, Wrote}
@@ -17,8 +18,9 @@ use Rattle.text.specs.declared.state.Held.{Held}
 use Rattle.text.specs.declared.turn.Told.{Told}
 use Rattle.text.specs.Held.{heldLine, holding, emptied}
 use Rattle.text.specs.Turn.{Desk, Turn, desk, turnOf, Turned}
-use Rattle.text.specs.Feed.{Memory, lineEnd, byteLeaves, byteText, Feeding, noFeeding, andThen, feed, Stepped}
-use Rattle.text.proofs.OverLaws.{over-over, over-none, over-fits}
+use Rattle.text.specs.Feed.{Memory, lineEnd, byteLeaves, byteText, Feeding, noFeeding, andThen, feed, ready?, stepOf, stateIn, Stepped}
+use Rattle.lines.proofs.Tests.{by-test}
+use Rattle.lines.proofs.OverLaws.{over-over, over-none, over-fits}
 use Rattle.text.proofs.WroteLaws.{wrote-none}
 use Rattle.text.proofs.TurnLaws.{turn-rows}
 
@@ -29,11 +31,11 @@ pub record Owing (whole : Feeding) (before : List ℕ) (rest : Feeding) (out : L
   pub bytes-written : wrote + length (rest .text) ≡ length (whole .text)
   pub text : over out wrote (rest .text) ≡ over before 0 (whole .text)
 
-pub owing-all : (whole : Feeding) (out : List ℕ) → Owing whole out whole out 0 0
+owing-all : (whole : Feeding) (out : List ℕ) → Owing whole out whole out 0 0
 owing-all whole out = record { left = refl; bytes-used = omega arith; bytes-written = omega arith; text = refl }
 
 -- Nothing is left to do.
-pub owing-none : (whole : Feeding) (before : List ℕ) (m : Memory) (out : List ℕ) (used wrote : ℕ) → Owing whole before (noFeeding m) out used wrote
+owing-none : (whole : Feeding) (before : List ℕ) (m : Memory) (out : List ℕ) (used wrote : ℕ) → Owing whole before (noFeeding m) out used wrote
     → (m ≡ whole .left) × (used ≡ whole .used) × Wrote before 0 (whole .text) wrote out
 owing-none whole before m out used wrote o =
     let all : used + 0 ≡ whole .used = o .bytes-used in
@@ -42,6 +44,26 @@ owing-none whole before m out used wrote o =
       omega arith,
       record { place-after = omega arith; bytes = sym (over-none out wrote) ∙ o .text },
     )
+
+-- What is ready, and what is not: it is left as it is.
+pub ready-parts : (rows size : ℕ) → (leb rows rowLimit && leb (rowLimit * rowNumbers) size) ≡ true
+    → (rows ≤ rowLimit) × (rowLimit * rowNumbers ≤ size)
+ready-parts rows size both =
+    let few : Bool = leb rows rowLimit in
+    let room : Bool = leb (rowLimit * rowNumbers) size in
+    (leb-true _ _ (and-left few room both), leb-true _ _ (and-right few room both))
+
+pub step-left : (m : Memory) (piece out : List ℕ) → ready? m ≡ false
+    → Stepped m piece out (record { state = stateIn m; used = 0; wrote = 0 }) (m .desk .table) (m .desk .store) out
+unfolding stepOf
+step-left m piece out not =
+    let nothing : stepOf m (length out) piece ≡ noFeeding m = rw not in
+    record { left = rw nothing; used = rw nothing; wrote = rw nothing (wrote-none out 0) }
+
+pub step-ready : (m : Memory) (room : ℕ) (piece : List ℕ) → m .desk .stage .rows ≤ rowLimit → rowLimit * rowNumbers ≤ length (m .desk .table)
+    → stepOf m room piece ≡ feed m room piece
+unfolding stepOf
+step-ready m room piece rows size = rw (le-leb _ _ rows, le-leb _ _ size)
 
 module _ (m : Memory) (room : ℕ) (piece : List ℕ) (used : ℕ) where
   -- No byte is left, or no room.
@@ -53,13 +75,13 @@ module _ (m : Memory) (room : ℕ) (piece : List ℕ) (used : ℕ) where
   unfolding feed
   feed-full more full = rw (drop-cons piece used 0 more) (rw (lt-ltb _ _ full))
 
-  pub feed-more : used < length piece → longestReply ≤ room
+  feed-more : used < length piece → longestReply ≤ room
       → feed m room (drop used piece) ≡ andThen (byteText m (byteAt piece used)) (feed (byteLeaves m (byteAt piece used)) (room - length (byteText m (byteAt piece used))) (drop (used + 1) piece))
   unfolding feed
   feed-more more free = rw (drop-cons piece used 0 more, add-one used) (rw (le-ltb _ _ free))
 
 -- One turn of the loop.
-pub owing-on : (whole : Feeding) (before : List ℕ) (m : Memory) (piece out : List ℕ) (used wrote : ℕ) (out′ : List ℕ) (wrote′ : ℕ)
+owing-on : (whole : Feeding) (before : List ℕ) (m : Memory) (piece out : List ℕ) (used wrote : ℕ) (out′ : List ℕ) (wrote′ : ℕ)
     → Owing whole before (feed m (length out - wrote) (drop used piece)) out used wrote
     → used < length piece → longestReply ≤ length out - wrote
     → Wrote out wrote (byteText m (byteAt piece used)) wrote′ out′ → length out′ ≡ length out
@@ -81,9 +103,27 @@ owing-on whole before m piece out used wrote out′ wrote′ o more free w same 
       text = rw (w .bytes, at) (over-over out wrote (omega arith) text (rest .text)) ∙ now .text;
     })
 
+-- No piece brings more rows than a table may have.
+byte-rows : (m : Memory) (byte : ℕ) → m .desk .stage .rows ≤ rowLimit → byteLeaves m byte .desk .stage .rows ≤ rowLimit
+unfolding byteLeaves
+byte-rows m byte most =
+    by-test (eqb byte lineFeed) (λ ends. rw ends (turn-rows (m .desk) (heldLine (holding (m .held) byte)) most)) (λ other. rw other most)
+
+feed-rows : (m : Memory) (room : ℕ) (piece : List ℕ) → m .desk .stage .rows ≤ rowLimit → feed m room piece .left .desk .stage .rows ≤ rowLimit
+unfolding feed
+feed-rows m room [] most = most
+feed-rows m room (byte ∷ piece) most =
+    by-test (ltb room longestReply) (λ full. rw full most)
+    (λ free. rw free (feed-rows (byteLeaves m byte) (room - length (byteText m byte)) piece (byte-rows m byte most)))
+
+pub step-rows : (m : Memory) (room : ℕ) (piece : List ℕ) → m .desk .stage .rows ≤ rowLimit → stepOf m room piece .left .desk .stage .rows ≤ rowLimit
+unfolding stepOf
+step-rows m room piece most =
+    by-test (ready? m) (λ ready. rw ready (feed-rows m room piece most)) (λ not. rw not most)
+
 -- What holds from turn to turn of the loop.
 pub record Going (first : Memory) (piece before : List ℕ) (m : Memory) (out : List ℕ) (used wrote : ℕ) : Type 0 where
-  pub owing : Owing (feed first (length before) piece) before (feed m (length out - wrote) (drop used piece)) out used wrote
+  pub owing : Owing (stepOf first (length before) piece) before (feed m (length out - wrote) (drop used piece)) out used wrote
   pub used-within : used ≤ length piece
   pub wrote-within : wrote ≤ length out
   pub rows : m .desk .stage .rows ≤ rowLimit
@@ -91,11 +131,12 @@ pub record Going (first : Memory) (piece before : List ℕ) (m : Memory) (out : 
   pub same-store : length (m .desk .store) ≡ length (first .desk .store)
   pub same-out : length out ≡ length before
 
-pub going-first : (first : Memory) (piece before : List ℕ) → first .desk .stage .rows ≤ rowLimit → Going first piece before first before 0 0
-going-first first piece before most =
+pub going-first : (first : Memory) (piece before : List ℕ) → first .desk .stage .rows ≤ rowLimit → rowLimit * rowNumbers ≤ length (first .desk .table)
+    → Going first piece before first before 0 0
+going-first first piece before most size =
     let whole : length before - 0 ≡ length before = omega arith in
     record {
-      owing = rw whole (owing-all (feed first (length before) piece) before);
+      owing = rw (whole, step-ready first (length before) piece most size) (owing-all (feed first (length before) piece) before);
       used-within = omega arith;
       wrote-within = omega arith;
       rows = most;
@@ -107,9 +148,9 @@ going-first first piece before most =
 module _ (first : Memory) (piece before : List ℕ) (m : Memory) (out : List ℕ) (used wrote : ℕ) (going : Going first piece before m out used wrote) where
   -- Nothing more can be done: no byte is left, or no room.
   pub going-ends : feed m (length out - wrote) (drop used piece) ≡ noFeeding m
-      → Stepped (feed first (length before) piece) before (record { state = record { held = m .held; stage = m .desk .stage }; used = used; wrote = wrote }) (m .desk .table) (m .desk .store) out
+      → Stepped first piece before (record { state = record { held = m .held; stage = m .desk .stage }; used = used; wrote = wrote }) (m .desk .table) (m .desk .store) out
   going-ends none =
-      let done = owing-none (feed first (length before) piece) before m out used wrote (rw none at (going .owing)) in
+      let done = owing-none (stepOf first (length before) piece) before m out used wrote (rw none at (going .owing)) in
       record { left = done .0; used = done .1; wrote = done .2 }
 
   module _ (more : used < length piece) (free : longestReply ≤ length out - wrote) where
@@ -123,7 +164,7 @@ module _ (first : Memory) (piece before : List ℕ) (m : Memory) (out : List ℕ
         let text : byteText m (byteAt piece used) ≡ [] = rw test in
         let wrote-none : Wrote out wrote (byteText m (byteAt piece used)) wrote out = rw text (wrote-none out wrote) in
         record {
-          owing = rw leaves at (owing-on (feed first (length before) piece) before m piece out used wrote out wrote (going .owing) more free wrote-none refl);
+          owing = rw leaves at (owing-on (stepOf first (length before) piece) before m piece out used wrote out wrote (going .owing) more free wrote-none refl);
           used-within = omega arith;
           wrote-within = going .wrote-within;
           rows = going .rows;
@@ -151,7 +192,7 @@ module _ (first : Memory) (piece before : List ℕ) (m : Memory) (out : List ℕ
         let stage : told .stage .rows ≡ turn .left .stage .rows = ap (λ (d : Desk). d .stage .rows) (turned .left) in
         let most : turn .left .stage .rows ≤ rowLimit = turn-rows (m .desk) (heldLine held) (going .rows) in
         record {
-          owing = rw leaves at (owing-on (feed first (length before) piece) before m piece out used wrote after (told .place) (going .owing) more free wrote-line same-out);
+          owing = rw leaves at (owing-on (stepOf first (length before) piece) before m piece out used wrote after (told .place) (going .owing) more free wrote-line same-out);
           used-within = omega arith;
           wrote-within = omega arith;
           rows = omega arith;

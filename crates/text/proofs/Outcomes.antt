@@ -6,8 +6,7 @@ use Rattle.text.specs.declared.feed.Fed.{Fed}
 use Rattle.text.specs.declared.feed.Finished.{Finished}
 use Rattle.text.specs.declared.state.State.{State}
 use Rattle.text.specs.Replies.{Wrote}
-use Rattle.text.specs.Feed.{Memory, Feeding, memoryOf, fresh, Stepped, Ended}
-use Rattle.text.specs.Cutting.{stateIn}
+use Rattle.text.specs.Feed.{Memory, memoryOf, stateIn, fresh, Stepped, Ended}
 
 -- `text::state::fresh`.
 pub one-state : (r r′ : State) → r ≡ fresh → r′ ≡ fresh → r ≡ r′
@@ -25,14 +24,14 @@ pub record SameStep (fed fed′ : Fed) (table table′ store store′ after afte
   pub words : store ≡ store′
   pub output : after ≡ after′
 
-pub one-step : (feeding : Feeding) (out : List ℕ) (fed fed′ : Fed) (table table′ store store′ after after′ : List ℕ)
-    → Stepped feeding out fed table store after → Stepped feeding out fed′ table′ store′ after′
+pub one-step : (m : Memory) (piece out : List ℕ) (fed fed′ : Fed) (table table′ store store′ after after′ : List ℕ)
+    → Stepped m piece out fed table store after → Stepped m piece out fed′ table′ store′ after′
     → SameStep fed fed′ table table′ store store′ after after′
-one-step feeding out fed fed′ table table′ store store′ after after′ s s′ =
+one-step m piece out fed fed′ table table′ store store′ after after′ s s′ =
     let left : memoryOf (fed .state) table store ≡ memoryOf (fed′ .state) table′ store′ = s .left ∙ sym (s′ .left) in
     let state : fed .state ≡ fed′ .state = ap stateIn left in
     let used : fed .used ≡ fed′ .used = s .used ∙ sym (s′ .used) in
-    let written = one-writing out 0 (feeding .text) (fed .wrote) (fed′ .wrote) after after′ (s .wrote) (s′ .wrote) in
+    let written = one-writing out 0 _ (fed .wrote) (fed′ .wrote) after after′ (s .wrote) (s′ .wrote) in
     record {
       answer = λ i. record { state = state i; used = used i; wrote = written .0 i };
       numbers = ap (λ (m : Memory). m .desk .table) left;

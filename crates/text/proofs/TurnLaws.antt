@@ -13,7 +13,7 @@ use Rattle.rules.specs.Limits.{rowLimit, rowNumbers}
 use Rattle.rules.specs.Refusals.{Refused, refused}
 use Rattle.rules.specs.Rows.{rowsOf}
 use Rattle.rules.specs.Stretches.{needOf}
-use Rattle.rules.specs.Table.{Said, saidOf, lengthPasses, firstFault, checkOf}
+use Rattle.rules.specs.Table.{saidOf, lengthPasses, firstFault, checkOf}
 use Rattle.rules.specs.declared.refusal.Refusal.{Refusal}
 use Rattle.rules.specs.declared.refusal.Refusal.the-variants.{Length}
 use Rattle.lines.specs.Digits.{byteAt, over}
@@ -23,10 +23,7 @@ use Rattle.lines.specs.Read as read
 use Rattle.monitor.specs.Ready.{withRoom, readyOf}
 use Rattle.monitor.specs.Start.{begin, startOf, saidStart}
 use Rattle.monitor.specs.Step.{said, saidStep, frame}
-use Rattle.monitor.specs.Step as step
-use Rattle.monitor.specs.declared.answer.StartAnswer.{StartAnswer}
 use Rattle.monitor.specs.declared.answer.StartAnswer.the-variants as StartAnswer
-use Rattle.monitor.specs.declared.answer.Answer.the-variants as Answer
 use Rattle.monitor.specs.declared.answer.Started.{Started}
 use Rattle.monitor.specs.declared.answer.Judged.{Judged}
 use Rattle.text.specs.declared.state.Part.{Part}
@@ -60,7 +57,7 @@ refusal-clash : (fault : Refused) → some fault ≡ none → ⊥
 refusal-clash fault is = let z : _≡_ {A = ℕ} 0 1 = cc in omega arith
 
 -- A start that is not refused has a table that passes, and its need is the table's.
-pub start-need : (table store : List ℕ) → startOf table store .refusal ≡ none → needSaid (checkOf table) ≡ needOf table
+start-need : (table store : List ℕ) → startOf table store .refusal ≡ none → needSaid (checkOf table) ≡ needOf table
 unfolding startOf readyOf checkOf
 start-need table store good =
     by-test (lengthPasses (length table))

@@ -10,7 +10,7 @@ use lib.ListN.{length, set, length-append}
 use Rattle.lines.specs.Digits.{digits, Written}
 use Rattle.lines.proofs.WriteLaws.{length-digits}
 use Rattle.text.specs.Replies.{Wrote, replyLine}
-use Rattle.text.proofs.OverLaws.{over-over, over-none, over-one, over-fits}
+use Rattle.lines.proofs.OverLaws.{over-over, over-none, over-one, over-fits}
 
 pub wrote-more : (out : List ℕ) (place : ℕ) (first : List ℕ) (between : ℕ) (middle : List ℕ) (second : List ℕ) (next : ℕ) (after : List ℕ)
     → place ≤ length out → Wrote out place first between middle → Wrote middle between second next after

@@ -64,8 +64,12 @@ ready? m = leb (m .desk .stage .rows) rowLimit && leb (rowLimit * rowNumbers) (l
 unfoldable pub stepOf : Memory → ℕ → List ℕ → Feeding
 stepOf m room piece = cond (ready? m) (feed m room piece) (noFeeding m)
 
+-- A state with what is lent, and the state in it.
 abbrev pub memoryOf : State → List ℕ → List ℕ → Memory
 memoryOf state table store = record { held = state .held; desk = record { stage = state .stage; table = table; store = store } }
+
+abbrev pub stateIn : Memory → State
+stateIn m = record { held = m .held; stage = m .desk .stage }
 
 -- The state before the first byte.
 unfoldable pub fresh : State
@@ -75,22 +79,23 @@ fresh =
       stage = staged Rules 0 (nothingSeen 0);
     }
 
--- "a line cut off by the text's end is a bad line; text that ends at a line's start before the empty line EE0800".
+-- "a 65th line before the empty one EE0100, whatever it holds; a line cut off by the text's end is a bad line; text that ends at a line's start
+-- before the empty line EE0800".
 abbrev pub endText : Part → ℕ → ℕ → List ℕ
 endText Rules rows count =
-    cond (eqb count 0) (refusalLine (numberOf Line) 0)
-    (cond (leb rowLimit rows) (refusalLine (numberOf Length) 0) (refusalLine (numberOf Line) rows))
+    cond (eqb count 0) (refusedLine (refused Line))
+    (cond (leb rowLimit rows) (refusedLine (refused Length)) (refusalLine (numberOf Line) rows))
 endText Frames rows count = cond (eqb count 0) [] (refusedLine (refused Line))
 endText Over rows count = []
 
 unfoldable pub endOf : State → List ℕ
 endOf state = endText (state .stage .part) (state .stage .rows) (state .held .count)
 
--- A feeding as the code has it: the state is handed back, what is lent is left, and the text is written from the output's start.
-pub record Stepped (feeding : Feeding) (out : List ℕ) (fed : Fed) (table store after : List ℕ) : Type 0 where
-  pub left : memoryOf (fed .state) table store ≡ feeding .left
-  pub used : fed .used ≡ feeding .used
-  pub wrote : Wrote out 0 (feeding .text) (fed .wrote) after
+-- A step as the code has it: the state is handed back, what is lent is left, and the text is written from the output's start.
+pub record Stepped (m : Memory) (piece out : List ℕ) (fed : Fed) (table store after : List ℕ) : Type 0 where
+  pub left : memoryOf (fed .state) table store ≡ stepOf m (length out) piece .left
+  pub used : fed .used ≡ stepOf m (length out) piece .used
+  pub wrote : Wrote out 0 (stepOf m (length out) piece .text) (fed .wrote) after
 
 -- The text's end writes where there is room for the longest line; otherwise nothing.
 pub record Ended (text out : List ℕ) (finished : Finished) (after : List ℕ) : Type 0 where

@@ -1,10 +1,8 @@
--- What a reader must believe of the program's text, in the order in which to read it: `Transcript` says what is right, the rest how it is
--- come by while the text arrives.
+-- What a reader must believe of the program's text is `Lines`, `Replies` and `Transcript`: they say what is right. The contracts cite the rest, which
+-- says how it is come by while the text arrives; that the two agree is proved in the crate text_promises.
 pub mod Lines
 pub mod Replies
 pub mod Transcript
 pub mod Held
 pub mod Turn
 pub mod Feed
-pub mod Cutting
-pub mod Meaning

@@ -11,10 +11,10 @@ cutOff [] = []
 cutOff (byte ∷ bytes) = (byte ∷ bytes) ∷ []
 
 -- The lines of a text that goes on from an unfinished line.
-unfoldable pub linesFrom : List ℕ → List ℕ → List (List ℕ)
-linesFrom line [] = cutOff line
-linesFrom line (byte ∷ text) =
-    cond (eqb byte lineFeed) ((line ++ (byte ∷ [])) ∷ linesFrom [] text) (linesFrom (line ++ (byte ∷ [])) text)
+unfoldable pub linesGoingOn : List ℕ → List ℕ → List (List ℕ)
+linesGoingOn line [] = cutOff line
+linesGoingOn line (byte ∷ text) =
+    cond (eqb byte lineFeed) ((line ++ (byte ∷ [])) ∷ linesGoingOn [] text) (linesGoingOn (line ++ (byte ∷ [])) text)
 
 abbrev pub linesOf : List ℕ → List (List ℕ)
-linesOf text = linesFrom [] text
+linesOf text = linesGoingOn [] text

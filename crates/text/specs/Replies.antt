@@ -4,7 +4,7 @@ use mathlib.Core.List.{List, [], _∷_, _++_}
 use mathlib.Core.Path.{_≡_}
 use Prim.Native.Nat.{ℕ, _+_}
 use lib.ListN.{length}
-use Rattle.lines.specs.Digits.{digits, over}
+use Rattle.lines.specs.Digits.{byteDigits, digits, over}
 use Rattle.lines.specs.Line.{lineFeed}
 use Rattle.rules.specs.Refusals.{Refused, rowIn}
 
@@ -19,12 +19,9 @@ needDigits = 8
 abbrev pub needLine : ℕ → List ℕ
 needLine need = replyLine 0 0 needDigits need
 
--- "per frame 12 digits of time and 00 or 01": a byte has two digits.
+-- "per frame 12 digits of time and 00 or 01".
 abbrev pub timeDigits : ℕ
 timeDigits = 12
-
-abbrev pub byteDigits : ℕ
-byteDigits = 2
 
 abbrev pub verdictNumber : Bool → ℕ
 verdictNumber true = 1

@@ -6,7 +6,7 @@ use Prim.Native.Nat.{ℕ}
 use lib.Dec.{leb, eqb}
 use lib.ListN.{getD, replicate}
 use Rattle.rules.specs.Limits.{rowLimit}
-use Rattle.rules.specs.Refusals.{Refused, numberOf}
+use Rattle.rules.specs.Refusals.{Refused, refused}
 use Rattle.rules.specs.Rows.{rowsOf}
 use Rattle.rules.specs.Stretches.{needOf}
 use Rattle.rules.specs.declared.refusal.Refusal.the-variants.{Length, Line}
@@ -88,16 +88,16 @@ withRule table (read.refusal fault) = table
 
 -- "A bad rule line is EE08 or EE09 with its line counted from 00".
 abbrev pub unlessFault : ℕ → Option Refused → List ℕ → List ℕ
-unlessFault line none more = more
-unlessFault line (some fault) more = refusalLine (fault .number) line
+unlessFault row none more = more
+unlessFault row (some fault) more = refusalLine (fault .number) row
 
 -- "an empty line", which ends the rules; "a 65th line before the empty one EE0100, whatever it holds"; "text that ends at a line's start before the
 -- empty line EE0800". A line cut off by the text's end is a bad line, since it has no line feed.
 unfoldable pub rulesFrom : List ℕ → List (List ℕ) → List ℕ
-rulesFrom table [] = refusalLine (numberOf Line) 0
+rulesFrom table [] = refusedLine (refused Line)
 rulesFrom table (line ∷ lines) =
     cond (eqb (byteAt line 0) lineFeed) (tableThen table lines)
-    (cond (leb rowLimit (rowsOf table)) (refusalLine (numberOf Length) 0)
+    (cond (leb rowLimit (rowsOf table)) (refusedLine (refused Length))
     (unlessFault (rowsOf table) (ruleFault (readRule line 0 .said)) (rulesFrom (withRule table (readRule line 0 .said)) lines)))
 
 unfoldable pub transcript : List ℕ → List ℕ

@@ -8,7 +8,7 @@ use Prim.Native.Nat.{ℕ, _+_, _*_, _≤_}
 use lib.Dec.{leb, eqb}
 use lib.ListN.{length, take}
 use Rattle.rules.specs.Limits.{rowLimit, rowNumbers}
-use Rattle.rules.specs.Refusals.{Refused, numberOf}
+use Rattle.rules.specs.Refusals.{Refused, refused}
 use Rattle.rules.specs.Stretches.{needOf}
 use Rattle.rules.specs.Table as table
 use Rattle.rules.specs.declared.refusal.Refusal.the-variants.{Length}
@@ -98,11 +98,15 @@ startTurn d start =
       text = startText (needOf (rowsRead d)) (start .refusal);
     }
 
+-- The empty line: the monitor starts on the rows read.
+abbrev pub emptyTurn : Desk → Turn
+emptyTurn d = startTurn d (startOf (rowsRead d) (d .store))
+
 -- "a 65th line before the empty one EE0100, whatever it holds".
 unfoldable pub beforeFrames : Desk → List ℕ → Turn
 beforeFrames d line =
-    cond (eqb (byteAt line 0) lineFeed) (startTurn d (startOf (rowsRead d) (d .store)))
-    (cond (leb rowLimit (d .stage .rows)) (refusing d (refusalLine (numberOf Length) 0)) (ruleTurn d (readRule line 0 .said)))
+    cond (eqb (byteAt line 0) lineFeed) (emptyTurn d)
+    (cond (leb rowLimit (d .stage .rows)) (refusing d (refusedLine (refused Length))) (ruleTurn d (readRule line 0 .said)))
 
 abbrev pub frameTurn : Desk → Said → Turn
 frameTurn d said =

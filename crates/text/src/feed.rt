@@ -11,7 +11,7 @@ ghost use Rattle.text.specs.declared.state.Part.the-variants as Part;
 ghost use Rattle.text.specs.Replies.{longestReply, Wrote};
 ghost use Rattle.text.specs.Held.{heldLine};
 ghost use Rattle.text.specs.Turn.{desk, Room, turnOf, Turned};
-ghost use Rattle.text.specs.Feed.{memoryOf, feed, stepOf, Stepped, endText, endOf, Ended};
+ghost use Rattle.text.specs.Feed.{memoryOf, Stepped, endText, endOf, Ended};
 use crate::replies::LONGEST_REPLY;
 use crate::replies::write_refusal;
 use crate::replies::write_refused;
@@ -44,7 +44,7 @@ pub struct Finished {
 // The bytes of a piece are taken as long as the output has room for the longest line: where not all were used, the caller empties the output
 // and goes on from there. A table that is lent too short for every row, or a state that counts more rows, is left as it is: nothing is used.
 pub fn step(state: State, table: &mut [u32], store: &mut [u64], piece: &[u8], out: &mut [u8]) -> Fed
-    ensures { λ r. ⌜ Stepped (stepOf (memoryOf state (now (table .entry)) (now (store .entry))) (length (now (out .entry))) (now (piece .entry))) (now (out .entry)) r (now (table .exit)) (now (store .exit)) (now (out .exit)) ⌝ }
+    ensures { λ r. ⌜ Stepped (memoryOf state (now (table .entry)) (now (store .entry))) (now (piece .entry)) (now (out .entry)) r (now (table .exit)) (now (store .exit)) (now (out .exit)) ⌝ }
 {
     let stage = state.stage;
     if is_ready(stage.rows, table.len()) {
@@ -75,6 +75,7 @@ pub fn finish(state: State, out: &mut [u8]) -> Finished
     }
 }
 
+// Whether the table has room for every row, and no more rows are counted.
 fn is_ready(rows: usize, size: usize) -> bool
     ensures { λ r. ⌜ r ≡ (leb rows rowLimit && leb (rowLimit * rowNumbers) size) ⌝ }
 {
@@ -84,9 +85,10 @@ fn is_ready(rows: usize, size: usize) -> bool
     ROW_LIMIT * ROW_NUMBERS <= size
 }
 
+// A step that is ready: byte after byte, and at each line feed the line.
 fn feed(state: State, table: &mut [u32], store: &mut [u64], piece: &[u8], out: &mut [u8]) -> Fed
     requires { ⌜ (state .stage .rows ≤ rowLimit) × (rowLimit * rowNumbers ≤ length (now table)) ⌝ }
-    ensures { λ r. ⌜ Stepped (feed (memoryOf state (now (table .entry)) (now (store .entry))) (length (now (out .entry))) (now (piece .entry))) (now (out .entry)) r (now (table .exit)) (now (store .exit)) (now (out .exit)) ⌝ }
+    ensures { λ r. ⌜ Stepped (memoryOf state (now (table .entry)) (now (store .entry))) (now (piece .entry)) (now (out .entry)) r (now (table .exit)) (now (store .exit)) (now (out .exit)) ⌝ }
 {
     let mut held = state.held;
     let mut stage = state.stage;
@@ -136,7 +138,7 @@ fn end_line(
     turn(stage, table, store, &all[0..count], out, place)
 }
 
-// What the text's end brings: a line that it cuts off is a bad line, and before the empty line there is no end.
+// What the text's end brings: a line that it cuts off is a bad line, and a text that ends before the empty line is refused.
 fn end_text(stage: Stage, count: usize, out: &mut [u8]) -> usize
     requires { ⌜ longestReply ≤ length (now out) ⌝ }
     ensures { λ r. ⌜ Wrote (now (out .entry)) 0 (endText (stage .part) (stage .rows) count) r (now (out .exit)) ⌝ }
@@ -149,6 +151,7 @@ fn end_text(stage: Stage, count: usize, out: &mut [u8]) -> usize
     }
 }
 
+// Before the empty line: no line is begun, the line is the 65th, or it is a bad rule line.
 fn end_of_rules(rows: usize, count: usize, out: &mut [u8]) -> usize
     requires { ⌜ longestReply ≤ length (now out) ⌝ }
     ensures { λ r. ⌜ Wrote (now (out .entry)) 0 (endText Part.Rules rows count) r (now (out .exit)) ⌝ }
@@ -167,6 +170,7 @@ fn end_of_rules(rows: usize, count: usize, out: &mut [u8]) -> usize
     )
 }
 
+// Among the frames: a line that is begun is a bad one.
 fn end_of_frames(count: usize, out: &mut [u8]) -> usize
     requires { ⌜ longestReply ≤ length (now out) ⌝ }
     ensures { λ r. ⌜ Wrote (now (out .entry)) 0 (endText Part.Frames 0 count) r (now (out .exit)) ⌝ }

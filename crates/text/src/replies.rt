@@ -18,7 +18,7 @@ const BYTE_DIGITS: usize = 2;
 const REFUSAL_MARK: u64 = 0xEE;
 
 // No line that is written is longer: "12 digits of time and 00 or 01", and the line feed.
-pub const LONGEST_REPLY: usize = 15;
+pub const LONGEST_REPLY: usize = TIME_DIGITS + BYTE_DIGITS + 1;
 
 // "need in 8 digits".
 pub(crate) fn write_need(out: &mut [u8], place: usize, need: u64) -> usize

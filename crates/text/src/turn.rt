@@ -3,7 +3,7 @@
 
 ghost use mathlib.Core.List.{List, [], _∷_};
 ghost use mathlib.Core.Path.{_≡_};
-ghost use Prim.Native.Nat.{ℕ, _+_, _*_, _≤_, _<_};
+ghost use Prim.Native.Nat.{ℕ, _+_, _≤_, _<_};
 ghost use lib.Dec.{eqb};
 ghost use lib.ListN.{length};
 ghost use Rattle.rules.specs.Limits.{rowLimit, rowNumbers};
@@ -13,8 +13,7 @@ ghost use Rattle.lines.specs.Line.{lineFeed};
 ghost use Rattle.lines.specs.Read.{numbers};
 ghost use Rattle.lines.specs.Frame.{readFrame};
 ghost use Rattle.lines.specs.Rule.{readRule};
-ghost use Rattle.monitor.specs.Start.{startOf};
-ghost use Rattle.text.specs.Turn.{desk, Room, needSaid, rowsRead, staged, beforeFrames, startTurn, ruleTurn, frameTurn, turnOf, Turned};
+ghost use Rattle.text.specs.Turn.{desk, Room, needSaid, staged, beforeFrames, emptyTurn, ruleTurn, frameTurn, turnOf, Turned};
 ghost use Rattle.text.specs.declared.state.Part.the-variants as Part;
 use crate::replies::write_need;
 use crate::replies::write_refusal;
@@ -78,13 +77,14 @@ fn before_frames(
     let rows = stage.rows;
     if ROW_LIMIT <= rows {
         return Told {
-            stage: over(stage),
+            stage: ended(stage),
             place: write_refused(out, place, Refusal::Length),
         };
     }
     rule_line(stage, table, line, out, place)
 }
 
+// Whether a line is the empty one.
 fn is_empty(line: &[u8]) -> bool
     ensures { λ r. ⌜ r ≡ eqb (byteAt (now (line .entry)) 0) lineFeed ⌝ }
 {
@@ -95,7 +95,7 @@ fn is_empty(line: &[u8]) -> bool
 }
 
 // Nothing more is written.
-fn over(stage: Stage) -> Stage
+fn ended(stage: Stage) -> Stage
     ensures { λ r. ⌜ r ≡ staged Part.Over (stage .rows) (stage .found) ⌝ }
 {
     let found = stage.found;
@@ -130,7 +130,7 @@ fn rule_line(stage: Stage, table: &mut [u32], line: &[u8], out: &mut [u8], place
             }
         }
         RuleFound::Refused(fault) => Told {
-            stage: over(stage),
+            stage: ended(stage),
             place: write_refusal(
                 out,
                 place,
@@ -141,6 +141,7 @@ fn rule_line(stage: Stage, table: &mut [u32], line: &[u8], out: &mut [u8], place
     }
 }
 
+// The numbers of a rule, in the table's order.
 fn add_row(table: &mut [u32], place: usize, kind: u32, x: u32, y: u32, a: u32, b: u32)
     requires { ⌜ place + rowNumbers ≤ length (now table) ⌝ }
     ensures { λ r. ⌜ now (table .exit) ≡ over (now (table .entry)) place (kind ∷ x ∷ y ∷ a ∷ b ∷ []) ⌝ }
@@ -155,7 +156,7 @@ fn add_row(table: &mut [u32], place: usize, kind: u32, x: u32, y: u32, a: u32, b
 // The empty line: the table is checked, and the monitor starts.
 fn empty_line(stage: Stage, table: &[u32], store: &mut [u64], out: &mut [u8], place: usize) -> Told
     requires { ⌜ Room stage (now table) (now out) place ⌝ }
-    ensures { λ r. ⌜ Turned (startTurn (desk stage (now (table .entry)) (now (store .entry))) (startOf (rowsRead (desk stage (now (table .entry)) (now (store .entry)))) (now (store .entry)))) (now (out .entry)) place r (now (table .entry)) (now (store .exit)) (now (out .exit)) ⌝ }
+    ensures { λ r. ⌜ Turned (emptyTurn (desk stage (now (table .entry)) (now (store .entry)))) (now (out .entry)) place r (now (table .entry)) (now (store .exit)) (now (out .exit)) ⌝ }
 {
     let rows = stage.rows;
     let end = rows * ROW_NUMBERS;
@@ -220,6 +221,7 @@ fn frame_line(
     }
 }
 
+// The monitor judges the frame: a verdict with the frame's time, or a refusal.
 fn judge(
     stage: Stage,
     table: &[u32],

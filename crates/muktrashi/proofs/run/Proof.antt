@@ -1,16 +1,43 @@
--- `muktrashi::run` is safe and ends: what was written fits the output. The loop: what is lent keeps its length. The measure is the turns left. Assumes nothing.
-use mathlib.Core.Path.{_≡_, sym, _∙_}
+-- `muktrashi::run` is safe and ends, and takes every piece whole. The loop: what is lent keeps its length, so there is room for a line a byte, and no
+-- more rows are counted than a table may have. What was written fits the output. The measure is the turns left. Assumes nothing.
+use mathlib.Core.List.{List}
+use mathlib.Core.Path.{_≡_, refl, sym, ap, _∙_}
+use Prim.Native.Nat.{ℕ, _*_, _≤_}
 use native.Mathlib.Omega.{arith}
 use borrow.Author.Needs.{needs}
 use lib.ListN.{length}
 use lib.Seq.{length-take-le}
+use Rattle.rules.specs.Limits.{rowLimit, rowNumbers}
+use Rattle.text.specs.declared.feed.Fed.{Fed}
+use Rattle.text.specs.declared.state.State.{State}
+use Rattle.text.specs.Replies.{longestReply}
+use Rattle.text.specs.Feed.{Memory, stepOf, memoryOf, fresh, Stepped}
 use Rattle.text.proofs.WroteLaws.{wrote-fits}
+use Rattle.text.proofs.FeedLaws.{step-rows}
 use Rattle.muktrashi.proofs.run.Statement.{statement}
 use Rattle.muktrashi.proofs.run.Tie as tie
 
+-- The rows that a state counts are never too many.
+fresh-rows : (s : State) → s ≡ fresh → s .stage .rows ≤ rowLimit
+unfolding fresh
+fresh-rows s is = rw is (omega arith)
+
+stepped-rows : (m : Memory) (piece out : List ℕ) (fed : Fed) (table store after : List ℕ) → Stepped m piece out fed table store after
+    → m .desk .stage .rows ≤ rowLimit → fed .state .stage .rows ≤ rowLimit
+stepped-rows m piece out fed table store after stepped most =
+    let same : fed .state .stage .rows ≡ stepOf m (length out) piece .left .desk .stage .rows =
+    ap (λ (m : Memory). m .desk .stage .rows) (stepped .left) in
+    rw same (step-rows m (length out) piece most)
+
 abbrev Inv-loop : tie.InvT-loop
 Inv-loop table₀ store₀ piece₀ out₀ state₀ turns₀ table store piece out state turns =
-    (length table ≡ length table₀) × (length store ≡ length store₀) × (length piece ≡ length piece₀) × (length out ≡ length out₀)
+    (length table ≡ length table₀)
+    × (length store ≡ length store₀)
+    × (length piece ≡ length piece₀)
+    × (length out ≡ length out₀)
+    × (state .stage .rows ≤ rowLimit)
+    × (rowLimit * rowNumbers ≤ length table₀)
+    × (longestReply * length piece₀ ≤ length out₀)
 
 abbrev μ-loop : tie.MeasureT-loop
 μ-loop table₀ store₀ piece₀ out₀ state₀ turns₀ table store piece out state turns = turns
@@ -19,7 +46,9 @@ fresh-requires : tie.Need-fresh-requires Inv-loop μ-loop
 fresh-requires c κs = search needs
 
 loop-holds : tie.Need-loop-holds Inv-loop μ-loop
-loop-holds c = search needs
+loop-holds c =
+    let start = c .before .before .before .before .before in
+    (refl, refl, refl, refl, fresh-rows (c .fresh .result) (c .fresh .ensures), start .pre .0, start .pre .2)
 
 sub-turns : tie.Need-sub-turns Inv-loop μ-loop
 sub-turns c = omega arith
@@ -48,19 +77,19 @@ same-length-4 c = omega arith
 returns : tie.Need-returns Inv-loop μ-loop
 returns c = search needs
 
-slice-reshare-prefix-step : tie.Need-slice-reshare-prefix-step Inv-loop μ-loop
-slice-reshare-prefix-step c = search needs
+slice-reshare-prefix-take-whole : tie.Need-slice-reshare-prefix-take-whole Inv-loop μ-loop
+slice-reshare-prefix-take-whole c = search needs
 
-slice-aggregate-step : tie.Need-slice-aggregate-step Inv-loop μ-loop
-slice-aggregate-step c = search needs
+slice-aggregate-take-whole : tie.Need-slice-aggregate-take-whole Inv-loop μ-loop
+slice-aggregate-take-whole c = search needs
 
-step-requires : tie.Need-step-requires Inv-loop μ-loop
-step-requires c κs = search needs
+take-whole-requires : tie.Need-take-whole-requires Inv-loop μ-loop
+take-whole-requires c κs = search needs
 
 slice-reshare-prefix-write-all : tie.Need-slice-reshare-prefix-write-all Inv-loop μ-loop
 slice-reshare-prefix-write-all c =
-    let fed = c .before .before .before .before .before .before .step in
-    wrote-fits _ _ _ _ (fed .ensures .wrote) (fed .kept .1 .1 .1 .1 .0)
+    let fed = c .before .before .before .before .before .before .take-whole in
+    wrote-fits _ _ _ _ (fed .ensures .1 .wrote) (fed .kept .1 .1 .1 .1 .0)
 
 slice-aggregate-write-all : tie.Need-slice-aggregate-write-all Inv-loop μ-loop
 slice-aggregate-write-all c = sym (length-take-le _ _ (slice-reshare-prefix-write-all (c .before)))
@@ -91,10 +120,13 @@ loop-again c =
     let fed = c .before .before .before .before .before .before .before .before .before .before in
     let read = fed .before .before .before .before .before .before .before .before .before .before in
     let at = read .before .before .before in (
-      fed .step .kept .1 .0 ∙ at .loop .inv .0,
-      fed .step .kept .1 .1 .0 ∙ at .loop .inv .1,
+      fed .take-whole .kept .1 .0 ∙ at .loop .inv .0,
+      fed .take-whole .kept .1 .1 .0 ∙ at .loop .inv .1,
       read .read .kept .1 .0 ∙ at .loop .inv .2,
-      fed .step .kept .1 .1 .1 .1 .0 ∙ at .loop .inv .3,
+      fed .take-whole .kept .1 .1 .1 .1 .0 ∙ at .loop .inv .3,
+      stepped-rows (memoryOf (at .loop .state) (at .loop .table) (at .loop .store)) _ _ _ _ _ _ (fed .take-whole .ensures .1) (at .loop .inv .4),
+      at .loop .inv .5,
+      at .loop .inv .6,
     )
 
 same-length-9 : tie.Need-same-length-9 Inv-loop μ-loop
@@ -129,9 +161,9 @@ run-spec =
     same-length-3
     same-length-4
     returns
-    slice-reshare-prefix-step
-    slice-aggregate-step
-    step-requires
+    slice-reshare-prefix-take-whole
+    slice-aggregate-take-whole
+    take-whole-requires
     slice-reshare-prefix-write-all
     slice-aggregate-write-all
     write-all-requires

@@ -9,7 +9,7 @@ use native.Mathlib.Omega.{arith}
 use borrow.Author.Tests.{le-leb, lt-leb}
 use lib.Dec.{leb, lit<}
 use lib.ListN.{length, length-set}
-use Rattle.lines.specs.Digits.{Written, digits}
+use Rattle.lines.specs.Digits.{Written}
 use Rattle.lines.proofs.WriteLaws.{leftOver, left-over, store-digit, none-left}
 use Rattle.lines.proofs.digits.write_digits.Statement.{statement}
 use Rattle.lines.proofs.digits.write_digits.Tie as tie

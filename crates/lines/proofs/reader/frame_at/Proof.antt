@@ -1,6 +1,7 @@
--- `lines::reader::frame_at` meets its contract: a walk of its MIR, by hand. A reader is made in a local and lent to `next_frame`, for a lifetime that is made for the call and lies within the text's; it comes back at its new place, which goes into the answer beside what was found.
--- All that the proof knows of `next_frame` is that it meets its contract. Half of the text's token stands for the text's lifetime in the call, the other half for the loan's.
--- Assumes nothing.
+-- `lines::reader::frame_at` meets its contract: a walk of its MIR, by hand. A reader is made in a local and lent to `next_frame`, for a lifetime that
+-- is made for the call and lies within the text's; it comes back at its new place, which goes into the answer beside what was found. All that the
+-- proof knows of `next_frame` is that it meets its contract. Half of the text's token stands for the text's lifetime in the call, the other half for
+-- the loan's. Assumes nothing.
 use mathlib.Core.Path.{refl, ap, subst}
 use Prim.Native.Nat.{ℕ, _<_, _^_}
 use mathlib.Core.List.{List, [], _∷_}
@@ -31,7 +32,7 @@ use denote.Lend.{lends-ref, ref-back}
 use denote.Memory.{mem, lone, partAt}
 use denote.Plain.{uint-vals, uint-tells, uint-makes}
 use denote.Builtin.{u8, usize}
-use denote.Ref.{RefT, NamedLft, MutRef, now}
+use denote.Ref.{RefT, NamedLft, MutRef}
 use denote.Signature.{plain}
 use denote.Slice.{sliceVal, ShrSlice, slice-vals, shr-slice-tells, shr-slice-lawful, shr-slice-copy}
 use denote.Steps.{only, owned, peeks, heard, nothing}

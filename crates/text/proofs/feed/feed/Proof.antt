@@ -1,18 +1,26 @@
--- `text::feed::feed` meets its contract. The loop over the bytes: what is left to do, after what was used and written, is all there was to do (`Going`).
--- The measure is what is left of the piece. Assumes nothing.
-use Prim.Native.Nat.{_-_, _*_, _≤_}
+-- `text::feed::feed` meets its contract. The loop over the bytes: what is left to do, after what was used and written, is all there was to do
+-- (`Going`). The measure is what is left of the piece. Assumes nothing.
+use mathlib.Core.List.{List}
+use Prim.Native.Nat.{ℕ, _-_, _*_, _≤_}
 use native.Mathlib.Omega.{arith}
 use borrow.Author.Needs.{needs}
 use lib.ListN.{length}
 use Rattle.rules.specs.Limits.{rowLimit, rowNumbers}
+use Rattle.text.specs.declared.state.Held.{Held}
+use Rattle.text.specs.declared.state.Stage.{Stage}
 use Rattle.text.specs.Turn.{desk}
+use Rattle.text.specs.Feed.{Memory}
 use Rattle.text.proofs.FeedLaws.{Going, going-first, going-ends, going-byte, going-line, feed-end, feed-full}
 use Rattle.text.proofs.feed.feed.Statement.{statement}
 use Rattle.text.proofs.feed.feed.Tie as tie
 
+-- What there is between two bytes.
+abbrev between : Held → Stage → List ℕ → List ℕ → Memory
+between held stage table store = record { held = held; desk = desk stage table store }
+
 abbrev Inv-loop : tie.InvT-loop
 Inv-loop table₀ store₀ piece out₀ held₀ stage₀ used₀ wrote₀ table store out held stage used wrote =
-    Going (record { held = held₀; desk = desk stage₀ table₀ store₀ }) piece out₀ (record { held = held; desk = desk stage table store }) out used wrote
+    Going (between held₀ stage₀ table₀ store₀) piece out₀ (between held stage table store) out used wrote
     × (rowLimit * rowNumbers ≤ length table₀)
 
 abbrev μ-loop : tie.MeasureT-loop
@@ -21,7 +29,7 @@ abbrev μ-loop : tie.MeasureT-loop
 loop-holds : tie.Need-loop-holds Inv-loop μ-loop
 loop-holds c =
     let start = c .before .before .before .before .before .before in
-    (going-first _ _ _ (start .pre .0), start .pre .1)
+    (going-first _ _ _ (start .pre .0) (start .pre .1), start .pre .1)
 
 sub-if1 : tie.Need-sub-if1 Inv-loop μ-loop
 sub-if1 c = omega arith
@@ -39,7 +47,7 @@ returns : tie.Need-returns Inv-loop μ-loop
 returns c =
     let test = c .before in
     let at = test .before in
-    going-ends _ _ _ (record { held = at .loop .held; desk = desk (at .loop .stage) (at .loop .table) (at .loop .store) }) _ _ _ (at .loop .inv .0)
+    going-ends _ _ _ (between (at .loop .held) (at .loop .stage) (at .loop .table) (at .loop .store)) _ _ _ (at .loop .inv .0)
     (feed-full _ _ _ _ (test .loop-test .taken) (c .if1 .taken))
 
 shared-slice-read-byte : tie.Need-shared-slice-read-byte Inv-loop μ-loop
@@ -70,7 +78,7 @@ loop-again c =
     let room = hold .before .before in
     let test = room .before in
     let at = test .before in (
-      going-line _ _ _ (record { held = at .loop .held; desk = desk (at .loop .stage) (at .loop .table) (at .loop .store) }) _ _ _ (at .loop .inv .0)
+      going-line _ _ _ (between (at .loop .held) (at .loop .stage) (at .loop .table) (at .loop .store)) _ _ _ (at .loop .inv .0)
           (test .loop-test .taken)
           (room .if1 .left)
           (byte .if2 .taken)
@@ -98,7 +106,7 @@ loop-again-2 c =
     let room = hold .before .before in
     let test = room .before in
     let at = test .before in (
-      going-byte _ _ _ (record { held = at .loop .held; desk = desk (at .loop .stage) (at .loop .table) (at .loop .store) }) _ _ _ (at .loop .inv .0)
+      going-byte _ _ _ (between (at .loop .held) (at .loop .stage) (at .loop .table) (at .loop .store)) _ _ _ (at .loop .inv .0)
           (test .loop-test .taken)
           (room .if1 .left)
           (c .if2 .left)
@@ -119,7 +127,7 @@ same-length-6 c = omega arith
 returns-2 : tie.Need-returns-2 Inv-loop μ-loop
 returns-2 c =
     let at = c .before in
-    going-ends _ _ _ (record { held = at .loop .held; desk = desk (at .loop .stage) (at .loop .table) (at .loop .store) }) _ _ _ (at .loop .inv .0)
+    going-ends _ _ _ (between (at .loop .held) (at .loop .stage) (at .loop .table) (at .loop .store)) _ _ _ (at .loop .inv .0)
     (feed-end _ _ _ _ (c .loop-test .left))
 
 pub feed-spec : {M : Type 1} → statement M

@@ -1,10 +1,8 @@
 -- `text::feed::step` meets its contract: what is not ready is left as it is. Assumes nothing.
-use mathlib.Core.Path.{refl, sym, _∙_}
+use mathlib.Core.Path.{sym, _∙_}
 use borrow.Author.Needs.{needs}
-use borrow.Author.Tests.{leb-true}
-use Rattle.lines.proofs.Tests.{and-true}
-use Rattle.text.specs.Feed.{stepOf}
-use Rattle.text.proofs.WroteLaws.{wrote-none}
+use Rattle.text.specs.Feed.{memoryOf}
+use Rattle.text.proofs.FeedLaws.{ready-parts, step-left}
 use Rattle.text.proofs.feed.step.Statement.{statement}
 use Rattle.text.proofs.feed.step.Tie as tie
 
@@ -14,8 +12,7 @@ is-ready-requires c κs = search needs
 feed-requires : tie.Need-feed-requires
 feed-requires c κs =
     let test = c .before .before .before in
-    let both = and-true _ _ (sym (test .before .is-ready .ensures) ∙ test .if1 .taken) in
-    (leb-true _ _ (both .0), leb-true _ _ (both .1))
+    ready-parts _ _ (sym (test .before .is-ready .ensures) ∙ test .if1 .taken)
 
 same-length : tie.Need-same-length
 same-length c = search needs
@@ -27,15 +24,12 @@ same-length-3 : tie.Need-same-length-3
 same-length-3 c = search needs
 
 returns : tie.Need-returns
-unfolding stepOf
-returns c =
-    let fed = c .before .before .before .before .before .before in
-    let test = fed .before .before .before .before in
-    rw (← (test .before .is-ready .ensures), test .if1 .taken) (fed .feed .ensures)
+returns c = c .before .before .before .before .before .before .feed .ensures
 
 returns-2 : tie.Need-returns-2
-unfolding stepOf
-returns-2 c = rw (← (c .before .is-ready .ensures), c .if1 .left) (record { left = refl; used = refl; wrote = wrote-none _ _ })
+returns-2 c =
+    let entry = c .before .before .before .before .before .before .before .args in
+    step-left (memoryOf (entry .state) (entry .table .now) (entry .store .now)) _ _ (sym (c .before .is-ready .ensures) ∙ c .if1 .left)
 
 pub step-spec : {M : Type 1} → statement M
 step-spec =

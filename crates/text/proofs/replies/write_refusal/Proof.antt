@@ -3,7 +3,7 @@ use native.Mathlib.Omega.{arith}
 use Prim.Native.Nat.{_+_, _≤_}
 use lib.ListN.{length}
 use borrow.Author.Needs.{needs}
-use Rattle.text.specs.Replies.{byteDigits}
+use Rattle.lines.specs.Digits.{byteDigits}
 use Rattle.text.proofs.WroteLaws.{wrote-more, wrote-digits}
 use Rattle.text.proofs.replies.write_refusal.Statement.{statement}
 use Rattle.text.proofs.replies.write_refusal.Tie as tie

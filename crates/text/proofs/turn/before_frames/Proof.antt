@@ -27,8 +27,8 @@ returns c =
     let test = told .before .before .before .before in
     rw (← (test .before .is-empty .ensures), test .if1 .taken) (told .empty-line .ensures)
 
-over-requires : tie.Need-over-requires
-over-requires c κs = search needs
+ended-requires : tie.Need-ended-requires
+ended-requires c κs = search needs
 
 write-refused-requires : tie.Need-write-refused-requires
 write-refused-requires c κs = search needs
@@ -43,7 +43,7 @@ returns-2 c =
     let limit = told .before .before .before in
     let test = limit .before in
     rw (← (test .before .is-empty .ensures), test .if1 .left, le-leb _ _ (limit .if2 .taken))
-    (record { left = rw (told .before .before .over .ensures); wrote = told .write-refused .ensures })
+    (record { left = rw (told .before .before .ended .ensures); wrote = told .write-refused .ensures })
 
 rule-line-requires : tie.Need-rule-line-requires
 rule-line-requires c κs = search needs
@@ -72,7 +72,7 @@ before-frames-spec =
     same-length-2
     same-length-3
     returns
-    over-requires
+    ended-requires
     write-refused-requires
     same-length-4
     returns-2

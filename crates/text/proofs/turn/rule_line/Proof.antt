@@ -27,8 +27,8 @@ add-t20 c = search needs
 enum-known-rule-2 : tie.Need-enum-known-rule-2
 enum-known-rule-2 c = search needs
 
-over-requires : tie.Need-over-requires
-over-requires c κs = search needs
+ended-requires : tie.Need-ended-requires
+ended-requires c κs = search needs
 
 number-requires : tie.Need-number-requires
 number-requires c κs = search needs
@@ -63,7 +63,7 @@ returns-3 c = λ store.
     let known = told .before .before .before .before .before in
     let read = known .before .before .read-rule in
     rw (read-found ruleFound _ _ _ _ (read .ensures) (known .rule2 .given .1))
-    (record { left = rw (told .before .before .before .over .ensures); wrote = rw (told .before .number .ensures) at (told .write-refusal .ensures) })
+    (record { left = rw (told .before .before .before .ended .ensures); wrote = rw (told .before .number .ensures) at (told .write-refusal .ensures) })
 
 pub rule-line-spec : {M : Type 1} → statement M
 rule-line-spec =
@@ -76,7 +76,7 @@ rule-line-spec =
     add-row-requires
     add-t20
     enum-known-rule-2
-    over-requires
+    ended-requires
     number-requires
     cast-write-refusal
     write-refusal-requires

@@ -1,7 +1,8 @@
--- `lines::reader::Reader::next_frame` meets its contract: a walk of its MIR, by hand. The borrow is opened, the text and the place are handed to `read_frame`, the place that it gives is stored beside the text, the borrow is closed at the reader with that place, and what was found is returned.
--- All that the proof knows of `read_frame` is that it meets its contract; the walk hands its fact on and never opens it.
--- The reader is Copy: what it owns is had twice, one copy is kept for the exit, and of the other what the text owns goes to the callee, beside the lifetime's token, which comes back.
--- Assumes nothing.
+-- `lines::reader::Reader::next_frame` meets its contract: a walk of its MIR, by hand. The borrow is opened, the text and the place are handed to
+-- `read_frame`, the place that it gives is stored beside the text, the borrow is closed at the reader with that place, and what was found is
+-- returned. All that the proof knows of `read_frame` is that it meets its contract; the walk hands its fact on and never opens it.
+-- The reader is Copy: what it owns is had twice, one copy is kept for the exit, and of the other what the text owns goes to the callee, beside the
+-- lifetime's token, which comes back. Assumes nothing.
 use mathlib.Core.Path.{_≡_, refl, ap}
 use Prim.Native.Nat.{ℕ, _<_, _^_}
 use mathlib.Core.List.{List, [], _∷_}

@@ -15,9 +15,9 @@ use Rattle.promises.specs.Stream.{State, Starts, next, after, callTime, state, 
 use Rattle.promises.proofs.CallKept.{call-kept}
 use Rattle.promises.proofs.StreamKept.{stream-kept}
 use Rattle.promises.proofs.Verdicts.{truths-are-meaning, verdict-is-meaning}
 use Rattle.text.specs.Lines.{linesOf}
 use Rattle.text.specs.Transcript.{emptyStore, Running, frameOf, replyOf, frameReply, frameLeaves, framesFrom, tableThen, rulesFrom, transcript}
-use Rattle.text.specs.Meaning.{FrameMeant, LineMeant, callsAfter, Meant, RulesThen, emptyLine, ruleLine, TranscriptTellsTheMeaning}
+use Rattle.text_promises.specs.Meaning.{FrameMeant, LineMeant, callsAfter, Meant, RulesThen, emptyLine, ruleLine, TranscriptTellsTheMeaning}
 
 -- What the monitor has after the calls so far.
 abbrev runningAfter : List ℕ → List Call → Running

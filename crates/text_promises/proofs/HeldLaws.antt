@@ -10,24 +10,24 @@ use lib.Dec.{ltb}
 use lib.ListN.{length, take, set, length-append, length-set}
 use lib.Seq.{take-suc-set, take-all, take-append-le}
 use Rattle.lines.proofs.Tests.{by-test}
 use Rattle.text.specs.declared.state.Held.{Held}
 use Rattle.text.specs.Held.{lineLimit, heldLine, holding, emptied}
 
-pub record Holds (h : Held) (line : List ℕ) : Type 0 where
+pub record HoldsLine (h : Held) (line : List ℕ) : Type 0 where
   pub size : length (h .bytes) ≡ lineLimit
   pub count : h .count ≡ min (length line) lineLimit
   pub bytes : take (h .count) (h .bytes) ≡ take lineLimit line
 
-pub holds-line : (h : Held) (line : List ℕ) → Holds h line → heldLine h ≡ take lineLimit line
+pub holds-line : (h : Held) (line : List ℕ) → HoldsLine h line → heldLine h ≡ take lineLimit line
 holds-line h line holds =
     let count : h .count ≡ min (length line) lineLimit = holds .count in
     let within : h .count ≤ lineLimit = omega arith in
     rw (min-eq-left within) (holds .bytes)
 
-pub holds-none : (h : Held) → length (h .bytes) ≡ lineLimit → Holds (emptied h) []
+pub holds-none : (h : Held) → length (h .bytes) ≡ lineLimit → HoldsLine (emptied h) []
 holds-none h size = record { size = size; count = refl; bytes = refl }
 
-pub holds-more : (h : Held) (line : List ℕ) (byte : ℕ) → Holds h line → Holds (holding h byte) (line ++ (byte ∷ []))
+pub holds-more : (h : Held) (line : List ℕ) (byte : ℕ) → HoldsLine h line → HoldsLine (holding h byte) (line ++ (byte ∷ []))
 unfolding holding
 holds-more h line byte holds =
     let count : h .count ≡ min (length line) lineLimit = holds .count in

@@ -2,7 +2,7 @@
 use mathlib.Core.List.{List, [], _∷_, _++_, append-nil}
 use mathlib.Core.Option.{Option, none, some}
 use mathlib.Core.Path.{_≡_, refl, sym}
-use Prim.Native.Nat.{ℕ, _+_, _-_, _*_, _≤_, _<_}
+use Prim.Native.Nat.{ℕ, _+_, _*_, _≤_, _<_}
 use native.Mathlib.Omega.{arith}
 use borrow.Author.Tests.{leb-false}
 use lib.Dec.{leb, eqb}
@@ -18,13 +18,13 @@ use Rattle.lines.specs.Frame.{readFrame}
 use Rattle.lines.specs.Rule.{ruleWidths, readRule}
 use Rattle.lines.proofs.Tests.{by-test}
 use Rattle.monitor.specs.Start.{Beginning, startOf}
 use Rattle.text.specs.declared.state.Part.{Part}
 use Rattle.text.specs.declared.state.Part.the-variants.{Rules, Frames, Over}
 use Rattle.text.specs.Transcript.{emptyStore, frameLeaves, framesFrom, begun, tableThen, ruleFault, withRule, unlessFault, rulesFrom}
 use Rattle.text.specs.Turn.{Desk, Turn, rowsRead, runningAt, startTurn, startPart, ruleTurn, beforeFrames, frameTurn, turnIn, turnOf}
-use Rattle.text.proofs.OverLaws.{take-over, length-over}
+use Rattle.lines.proofs.OverLaws.{take-over, length-over}
 use Rattle.text.proofs.TurnLaws.{turn-rows}
-use Rattle.text.proofs.AgreeLaws.{said-by}
+use Rattle.lines.proofs.AgreeLaws.{said-by}
 
 abbrev pub owedIn : Part → Desk → List (List ℕ) → List ℕ
 owedIn Rules d lines = rulesFrom (rowsRead d) lines

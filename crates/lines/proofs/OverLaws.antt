@@ -18,10 +18,10 @@ module _ (out : List ℕ) (place : ℕ) (within : place ≤ length out) (bytes :
   pub take-over : take (place + length bytes) (over out place bytes) ≡ take place out ++ bytes
   take-over = rw apart (take-at (take place out ++ bytes) (drop (place + length bytes) out) (place + length bytes) head)
 
-  pub drop-over : drop (place + length bytes) (over out place bytes) ≡ drop (place + length bytes) out
+  drop-over : drop (place + length bytes) (over out place bytes) ≡ drop (place + length bytes) out
   drop-over = rw apart (drop-at (take place out ++ bytes) (drop (place + length bytes) out) (place + length bytes) head)
 
-  pub drop-over-more : (n : ℕ) → drop (place + length bytes + n) (over out place bytes) ≡ drop (place + length bytes + n) out
+  drop-over-more : (n : ℕ) → drop (place + length bytes + n) (over out place bytes) ≡ drop (place + length bytes + n) out
   drop-over-more n =
       sym (drop-drop n (place + length bytes) (over out place bytes)) ∙ rw drop-over (drop-drop n (place + length bytes) out)
 

@@ -1,51 +1,43 @@
 -- Every cutting of a text is the text: what the bytes taken so far write, and what is still owed for those to come, is the transcript.
 use mathlib.Core.Bool.{false, cond}
 use mathlib.Core.List.{List, [], _∷_, _++_, append-assoc, append-nil}
-use mathlib.Core.Option.{Option, none, some}
 use mathlib.Core.Path.{_≡_, refl, sym, ap, _∙_}
 use Prim.Native.Nat.{ℕ, zero, suc, _+_, _-_, _*_, _≤_, _<_, min}
 use native.Mathlib.Omega.{arith}
-use borrow.Author.Tests.{le-leb, eqb-false, ne-eqb, le-ltb}
-use lib.Dec.{leb, ltb, eqb, lit<}
-use lib.ListN.{length, take, length-append}
+use borrow.Author.Tests.{eqb-false, ne-eqb, le-ltb}
+use lib.Dec.{ltb, eqb, lit<}
+use lib.ListN.{length, take}
 use lib.Seq.{getD-take, take-length}
 use native.Mathlib.Numerals.{one-add}
 use Rattle.rules.specs.Limits.{rowLimit, rowNumbers}
-use Rattle.rules.specs.Refusals.{Refused, numberOf, firstOf}
-use Rattle.rules.specs.Stretches.{needOf}
-use Rattle.rules.specs.declared.refusal.Refusal.the-variants.{Length}
 use Rattle.lines.specs.Digits.{byteAt}
 use Rattle.lines.specs.Line.{lineFeed}
-use Rattle.lines.specs.Read.{Said, end, numbers, refusal}
-use Rattle.lines.specs.Frame.{frameWidths, readFrame}
-use Rattle.lines.specs.Rule.{ruleWidths, readRule}
+use Rattle.lines.specs.Frame.{frameWidths}
+use Rattle.lines.specs.Rule.{ruleWidths}
 use Rattle.lines.proofs.Tests.{by-test}
-use Rattle.lines.proofs.WriteLaws.{length-digits}
-use Rattle.monitor.specs.Start.{startOf}
-use Rattle.monitor.specs.Step.{Reply}
-use Rattle.monitor.specs.Step as step
+use Rattle.lines.proofs.AgreeLaws.{said-held, said-cut}
 use Rattle.text.specs.declared.state.Part.{Part}
 use Rattle.text.specs.declared.state.Part.the-variants.{Rules, Frames, Over}
-use Rattle.text.specs.Lines.{linesFrom}
-use Rattle.text.specs.Replies.{needDigits, timeDigits, byteDigits, longestReply, replyLine, verdictNumber, refusalLine}
-use Rattle.text.specs.Transcript.{emptyStore, Running, judged, frameOf, replyOf, frameReply, framesFrom, rulesFrom, transcript}
+use Rattle.text.specs.Lines.{linesGoingOn}
+use Rattle.text.specs.Replies.{longestReply}
+use Rattle.text.specs.Transcript.{emptyStore, framesFrom, rulesFrom, transcript}
 use Rattle.text.specs.Held.{lineLimit, heldLine, holding}
-use Rattle.text.specs.Turn.{Desk, rowsRead, runningAt, startText, ruleTurn, beforeFrames, turnIn, turnOf}
-use Rattle.text.specs.Feed.{Memory, byteLeaves, byteText, feed, stepOf, memoryOf, fresh, endText, endOf}
-use Rattle.text.specs.Cutting.{Lent, course, stateIn, EveryCutting, joined, Roomy, EveryByteTaken, SomeByteTaken}
-use Rattle.text.proofs.WroteLaws.{length-reply}
-use Rattle.text.proofs.AgreeLaws.{said-held, said-cut}
-use Rattle.text.proofs.HeldLaws.{Holds, holds-line, holds-none, holds-more}
-use Rattle.text.proofs.OwedLaws.{owedIn, owed, Right, rows-read, turn-owed, turn-right}
+use Rattle.text.specs.Turn.{Desk, beforeFrames, turnIn, turnOf}
+use Rattle.text.specs.Feed.{Memory, byteLeaves, byteText, feed, memoryOf, stateIn, fresh, endText, endOf}
+use Rattle.text_promises.specs.Cutting.{Lent, course, EveryCutting, joined, Roomy, EveryByteTaken, SomeByteTaken}
+use Rattle.text.proofs.FeedLaws.{step-ready}
+use Rattle.text.proofs.ShortLaws.{feed-all}
+use Rattle.text_promises.proofs.HeldLaws.{HoldsLine, holds-line, holds-none, holds-more}
+use Rattle.text_promises.proofs.OwedLaws.{owedIn, owed, Right, rows-read, turn-owed, turn-right}
 
 -- The unfinished line after a text that goes on from one.
-unfoldable pub unfinished : List ℕ → List ℕ → List ℕ
+unfoldable unfinished : List ℕ → List ℕ → List ℕ
 unfinished line [] = line
 unfinished line (byte ∷ text) = cond (eqb byte lineFeed) (unfinished [] text) (unfinished (line ++ (byte ∷ [])) text)
 
 -- What there is between two bytes is right for an unfinished line.
-pub record Stands (m : Memory) (line : List ℕ) : Type 0 where
-  pub held : Holds (m .held) line
+record Stands (m : Memory) (line : List ℕ) : Type 0 where
+  pub held : HoldsLine (m .held) line
   pub free : (i : ℕ) → byteAt line i ≡ lineFeed → ⊥
   pub desk : Right (m .desk)
 
@@ -71,21 +63,21 @@ free-more (first ∷ line) byte free other (suc i) is = free-more line byte (λ 
 
 -- What is still to be written for the rest of a text.
 abbrev toCome : Memory → List ℕ → List ℕ → List ℕ
-toCome m line rest = owed (m .desk) (linesFrom line rest)
+toCome m line rest = owed (m .desk) (linesGoingOn line rest)
 
 -- One byte writes its share.
 module _ (m : Memory) (line : List ℕ) (byte : ℕ) (stands : Stands m line) where
   byte-owed : (rest : List ℕ) → toCome m line (byte ∷ rest) ≡ byteText m byte ++ toCome (byteLeaves m byte) (unfinished line (byte ∷ [])) rest
-  unfolding linesFrom byteText byteLeaves unfinished
+  unfolding linesGoingOn byteText byteLeaves unfinished
   byte-owed rest =
       by-test (eqb byte lineFeed)
-      (λ ends. rw (ends, turn-held m line byte stands) (turn-owed (m .desk) (line ++ (byte ∷ [])) (linesFrom [] rest) (stands .desk)))
+      (λ ends. rw (ends, turn-held m line byte stands) (turn-owed (m .desk) (line ++ (byte ∷ [])) (linesGoingOn [] rest) (stands .desk)))
       (λ other. rw other)
 
   byte-stands : Stands (byteLeaves m byte) (unfinished line (byte ∷ []))
   unfolding byteLeaves unfinished
   byte-stands =
-      let more : Holds (holding (m .held) byte) (line ++ (byte ∷ [])) = holds-more (m .held) line byte (stands .held) in
+      let more : HoldsLine (holding (m .held) byte) (line ++ (byte ∷ [])) = holds-more (m .held) line byte (stands .held) in
       by-test (eqb byte lineFeed)
       (λ ends. rw (ends, turn-held m line byte stands)
       (record {
@@ -138,12 +130,6 @@ feed-share m room line (byte ∷ piece) stands =
     (share-more m line (byte ∷ []) (byteText m byte) (byteLeaves m byte) _ _ _ (byte-share m line byte stands)
     (feed-share (byteLeaves m byte) (room - length (byteText m byte)) (unfinished line (byte ∷ [])) piece (byte-stands m line byte stands))))
 
--- What stands is ready for a step.
-step-ready : (m : Memory) (room : ℕ) (piece : List ℕ) → m .desk .stage .rows ≤ rowLimit → rowLimit * rowNumbers ≤ length (m .desk .table)
-    → stepOf m room piece ≡ feed m room piece
-unfolding stepOf
-step-ready m room piece rows size = rw (le-leb _ _ rows, le-leb _ _ size)
-
 course-share : (m : Memory) (line : List ℕ) (lents : List Lent) → Stands m line
     → Share m line (course m lents .taken) (course m lents .written) (course m lents .left)
 unfolding course
@@ -157,8 +143,8 @@ course-share m line (lent ∷ more) stands =
 
 -- The text's end.
 end-owed-in : (part : Part) (d : Desk) (line : List ℕ) (count : ℕ) → Right d → count ≡ min (length line) lineLimit → ((i : ℕ) → byteAt line i ≡ lineFeed → ⊥)
-    → owedIn part d (linesFrom line []) ≡ endText part (d .stage .rows) count
-unfolding linesFrom rulesFrom framesFrom
+    → owedIn part d (linesGoingOn line []) ≡ endText part (d .stage .rows) count
+unfolding linesGoingOn rulesFrom framesFrom
 end-owed-in Rules d [] count right is free = rw is
 end-owed-in Rules d (byte ∷ line) count right is free =
     let held : eqb count 0 ≡ false = ne-eqb count 0 (λ nothing. omega arith) in
@@ -198,56 +184,6 @@ every-cutting table room lents =
     ∙ sym (share .text-owed [])
     ∙ ap (toCome m []) (append-nil (course m lents .taken))
     ∙ fresh-owed table (course m lents .taken)
-
--- No line that is written is longer than the longest, so that a byte needs no more room.
-reply-short : (n first m second : ℕ) → n + m < longestReply → length (replyLine n first m second) ≤ longestReply
-reply-short n first m second fits = rw length-reply (omega arith)
-
-refusal-short : (number row : ℕ) → length (refusalLine number row) ≤ longestReply
-refusal-short number row = simp (length-append, length-digits, length-reply) (omega arith)
-
-start-short : (need : ℕ) (fault : Option Refused) → length (startText need fault) ≤ longestReply
-start-short need none = reply-short 0 0 needDigits need (omega arith)
-start-short need (some fault) = refusal-short (fault .number) (firstOf (fault .values))
-
-rule-short : (d : Desk) (said : Said) → length (ruleTurn d said .text) ≤ longestReply
-rule-short d end = omega arith
-rule-short d (numbers given) = omega arith
-rule-short d (refusal fault) = refusal-short (fault .number) (d .stage .rows)
-
-answer-short : (time : ℕ) (reply : Reply) → length (replyOf time reply) ≤ longestReply
-answer-short time (step.verdict holds) = reply-short timeDigits time byteDigits (verdictNumber holds) (omega arith)
-answer-short time (step.refusal fault) = refusal-short (fault .number) (firstOf (fault .values))
-
-frame-short : (s : Running) (said : Said) → length (frameReply s said) ≤ longestReply
-frame-short s end = omega arith
-frame-short s (numbers given) = answer-short (judged s (frameOf given) .left .time) (judged s (frameOf given) .reply)
-frame-short s (refusal fault) = refusal-short (fault .number) (firstOf (fault .values))
-
-turn-short-in : (part : Part) (d : Desk) (line : List ℕ) → length (turnIn part d line .text) ≤ longestReply
-unfolding beforeFrames
-turn-short-in Rules d line =
-    by-test (eqb (byteAt line 0) lineFeed) (λ empty. rw empty (start-short (needOf (rowsRead d)) (startOf (rowsRead d) (d .store) .refusal)))
-    (λ other. rw other
-    (by-test (leb rowLimit (d .stage .rows)) (λ all. rw all (refusal-short (numberOf Length) 0))
-    (λ fewer. rw fewer (rule-short d (readRule line 0 .said)))))
-turn-short-in Frames d line = frame-short (runningAt d) (readFrame line 0 .said)
-turn-short-in Over d line = omega arith
-
-byte-short : (m : Memory) (byte : ℕ) → length (byteText m byte) ≤ longestReply
-unfolding byteText
-byte-short m byte =
-    by-test (eqb byte lineFeed) (λ ends. rw ends (turn-short-in (m .desk .stage .part) (m .desk) (heldLine (holding (m .held) byte))))
-    (λ other. rw other (omega arith))
-
-feed-all : (m : Memory) (room : ℕ) (piece : List ℕ) → longestReply * length piece ≤ room → feed m room piece .used ≡ length piece
-unfolding feed
-feed-all m room [] roomy = refl
-feed-all m room (byte ∷ piece) roomy =
-    let short : length (byteText m byte) ≤ longestReply = byte-short m byte in
-    let free : ltb room longestReply ≡ false = le-ltb room longestReply (omega arith) in
-    let rest : feed (byteLeaves m byte) (room - length (byteText m byte)) piece .used ≡ length piece = feed-all (byteLeaves m byte) (room - length (byteText m byte)) piece (omega arith) in
-    rw free (omega arith)
 
 course-all : (m : Memory) (line : List ℕ) (lents : List Lent) → Stands m line → Roomy lents → course m lents .taken ≡ joined lents
 unfolding course

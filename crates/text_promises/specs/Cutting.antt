@@ -5,10 +5,9 @@ use mathlib.Core.Path.{_≡_}
 use Prim.Native.Nat.{ℕ, _*_, _≤_, _<_}
 use lib.ListN.{length, take}
 use Rattle.rules.specs.Limits.{rowLimit, rowNumbers}
-use Rattle.text.specs.declared.state.State.{State}
 use Rattle.text.specs.Replies.{longestReply}
 use Rattle.text.specs.Transcript.{emptyStore, transcript}
-use Rattle.text.specs.Feed.{Memory, stepOf, memoryOf, fresh, endOf}
+use Rattle.text.specs.Feed.{Memory, stepOf, memoryOf, stateIn, fresh, endOf}
 
 -- A piece, and the room of the output that is lent for it.
 pub record Lent : Type 0 where
@@ -33,9 +32,6 @@ unfoldable pub course : Memory → List Lent → Course
 course m [] = record { left = m; taken = []; written = [] }
 course m (lent ∷ more) = andOn m lent (course (stepOf m (lent .room) (lent .piece) .left) more)
 
-abbrev pub stateIn : Memory → State
-stateIn m = record { held = m .held; stage = m .desk .stage }
-
 -- From the first byte on, with a table that is lent.
 abbrev pub courseOf : List ℕ → List Lent → Course
 courseOf table lents = course (memoryOf fresh table emptyStore) lents
@@ -57,7 +53,11 @@ Roomy [] = Unit
 Roomy (lent ∷ more) = (longestReply * length (lent .piece) ≤ lent .room) × Roomy more
 
 abbrev pub EveryByteTaken : Type 0
-EveryByteTaken = (table : List ℕ) → rowLimit * rowNumbers ≤ length table → (lents : List Lent) → Roomy lents → courseOf table lents .taken ≡ joined lents
+EveryByteTaken = (table : List ℕ)
+    → rowLimit * rowNumbers ≤ length table
+    → (lents : List Lent)
+    → Roomy lents
+    → courseOf table lents .taken ≡ joined lents
 
 -- Where there is room for one line, a piece that is not empty is not taken in vain.
 abbrev pub SomeByteTaken : Type 0

@@ -1,0 +1,90 @@
+-- No line that is written is longer than the longest: a piece with room for a line a byte is taken whole.
+use mathlib.Core.Option.{Option, none, some}
+use mathlib.Core.Bool.{false}
+use mathlib.Core.List.{List, [], _∷_}
+use mathlib.Core.Path.{_≡_, refl}
+use Prim.Native.Nat.{ℕ, _+_, _-_, _*_, _≤_, _<_}
+use native.Mathlib.Omega.{arith}
+use borrow.Author.Tests.{le-ltb}
+use lib.Dec.{leb, ltb, eqb}
+use lib.ListN.{length, length-append}
+use Rattle.rules.specs.Limits.{rowLimit, rowNumbers}
+use Rattle.rules.specs.Refusals.{Refused, refused}
+use Rattle.rules.specs.Stretches.{needOf}
+use Rattle.rules.specs.declared.refusal.Refusal.the-variants.{Length}
+use Rattle.lines.specs.Digits.{byteAt, byteDigits}
+use Rattle.lines.specs.Line.{lineFeed}
+use Rattle.lines.specs.Read.{Said, end, numbers, refusal}
+use Rattle.lines.specs.Frame.{readFrame}
+use Rattle.lines.specs.Rule.{readRule}
+use Rattle.lines.proofs.Tests.{by-test}
+use Rattle.lines.proofs.WriteLaws.{length-digits}
+use Rattle.monitor.specs.Start.{startOf}
+use Rattle.monitor.specs.Step.{Reply}
+use Rattle.monitor.specs.Step as step
+use Rattle.text.specs.declared.state.Part.{Part}
+use Rattle.text.specs.declared.state.Part.the-variants.{Rules, Frames, Over}
+use Rattle.text.specs.Replies.{needDigits, timeDigits, longestReply, replyLine, verdictNumber, refusalLine, refusedLine}
+use Rattle.text.specs.Transcript.{Running, judged, frameOf, replyOf, frameReply}
+use Rattle.text.specs.Held.{heldLine, holding}
+use Rattle.text.specs.Turn.{Desk, rowsRead, runningAt, startText, ruleTurn, beforeFrames, turnIn}
+use Rattle.text.specs.Feed.{Memory, byteLeaves, byteText, feed, stepOf}
+use Rattle.text.proofs.WroteLaws.{length-reply}
+use Rattle.text.proofs.FeedLaws.{step-ready}
+
+reply-short : (n first m second : ℕ) → n + m < longestReply → length (replyLine n first m second) ≤ longestReply
+reply-short n first m second fits = rw length-reply (omega arith)
+
+refusal-short : (number row : ℕ) → length (refusalLine number row) ≤ longestReply
+refusal-short number row = simp (length-append, length-digits, length-reply) (omega arith)
+
+refused-short : (fault : Refused) → length (refusedLine fault) ≤ longestReply
+refused-short fault = refusal-short (fault .number) _
+
+start-short : (need : ℕ) (fault : Option Refused) → length (startText need fault) ≤ longestReply
+start-short need none = reply-short 0 0 needDigits need (omega arith)
+start-short need (some fault) = refused-short fault
+
+rule-short : (d : Desk) (said : Said) → length (ruleTurn d said .text) ≤ longestReply
+rule-short d end = omega arith
+rule-short d (numbers given) = omega arith
+rule-short d (refusal fault) = refusal-short (fault .number) (d .stage .rows)
+
+answer-short : (time : ℕ) (reply : Reply) → length (replyOf time reply) ≤ longestReply
+answer-short time (step.verdict holds) = reply-short timeDigits time byteDigits (verdictNumber holds) (omega arith)
+answer-short time (step.refusal fault) = refused-short fault
+
+frame-short : (s : Running) (said : Said) → length (frameReply s said) ≤ longestReply
+frame-short s end = omega arith
+frame-short s (numbers given) = answer-short (judged s (frameOf given) .left .time) (judged s (frameOf given) .reply)
+frame-short s (refusal fault) = refused-short fault
+
+turn-short-in : (part : Part) (d : Desk) (line : List ℕ) → length (turnIn part d line .text) ≤ longestReply
+unfolding beforeFrames
+turn-short-in Rules d line =
+    by-test (eqb (byteAt line 0) lineFeed) (λ empty. rw empty (start-short (needOf (rowsRead d)) (startOf (rowsRead d) (d .store) .refusal)))
+    (λ other. rw other
+    (by-test (leb rowLimit (d .stage .rows)) (λ all. rw all (refused-short (refused Length)))
+    (λ fewer. rw fewer (rule-short d (readRule line 0 .said)))))
+turn-short-in Frames d line = frame-short (runningAt d) (readFrame line 0 .said)
+turn-short-in Over d line = omega arith
+
+byte-short : (m : Memory) (byte : ℕ) → length (byteText m byte) ≤ longestReply
+unfolding byteText
+byte-short m byte =
+    by-test (eqb byte lineFeed) (λ ends. rw ends (turn-short-in (m .desk .stage .part) (m .desk) (heldLine (holding (m .held) byte))))
+    (λ other. rw other (omega arith))
+
+-- A byte needs no more room than the longest line.
+pub feed-all : (m : Memory) (room : ℕ) (piece : List ℕ) → longestReply * length piece ≤ room → feed m room piece .used ≡ length piece
+unfolding feed
+feed-all m room [] roomy = refl
+feed-all m room (byte ∷ piece) roomy =
+    let short : length (byteText m byte) ≤ longestReply = byte-short m byte in
+    let free : ltb room longestReply ≡ false = le-ltb room longestReply (omega arith) in
+    let rest : feed (byteLeaves m byte) (room - length (byteText m byte)) piece .used ≡ length piece = feed-all (byteLeaves m byte) (room - length (byteText m byte)) piece (omega arith) in
+    rw free (omega arith)
+
+pub step-all : (m : Memory) (room : ℕ) (piece : List ℕ) → m .desk .stage .rows ≤ rowLimit → rowLimit * rowNumbers ≤ length (m .desk .table)
+    → longestReply * length piece ≤ room → stepOf m room piece .used ≡ length piece
+step-all m room piece rows size roomy = rw (step-ready m room piece rows size) (feed-all m room piece roomy)

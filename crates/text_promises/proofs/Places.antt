@@ -1,0 +1,88 @@
+-- A text read by places says what its lines say: the place after a reading is past the line's end, and what is read of a line there is what is read
+-- of it alone.
+use mathlib.Core.List.{List, [], _∷_, _++_, map, append-assoc}
+use mathlib.Core.Path.{_≡_, refl, sym, ap, _∙_}
+use Prim.Native.Nat.{ℕ, zero, suc, _+_, _≤_, _<_}
+use native.Mathlib.Omega.{arith}
+use borrow.Author.Tests.{leb-true, leb-false}
+use lib.Dec.{leb, eqb}
+use lib.ListN.{length, take, drop, length-drop, drop-of-length-le}
+use lib.Seq.{drop-drop}
+use Rattle.lines.specs.Line.{lineFeed, pastFirst, pastLineFeed}
+use Rattle.lines.specs.Read.{Said, end, numbers, refusal, bytesOf}
+use Rattle.lines.specs.Frame.{frameWidths, readFrame}
+use Rattle.lines.proofs.Tests.{by-test}
+use Rattle.lines.proofs.LineLaws.{next-past}
+use Rattle.lines.proofs.AgreeLaws.{past-some, said-alone}
+use Rattle.promises.specs.TextRead.{untilEnd, linesFrom}
+use Rattle.promises.proofs.Reading.{read-refused-exactly}
+use Rattle.text.specs.Lines.{cutOff, linesGoingOn, linesOf}
+use Rattle.text_promises.specs.Places.{LinesAreReadings}
+
+-- The first line of a text, and the rest.
+cut-off : (line : List ℕ) (byte : ℕ) → cutOff (line ++ (byte ∷ [])) ≡ (line ++ (byte ∷ [])) ∷ []
+cut-off [] byte = refl
+cut-off (first ∷ line) byte = refl
+
+first-line : (line : List ℕ) (byte : ℕ) (text : List ℕ)
+    → linesGoingOn line (byte ∷ text)
+    ≡ (line ++ take (pastFirst (byte ∷ text)) (byte ∷ text)) ∷ linesOf (drop (pastFirst (byte ∷ text)) (byte ∷ text))
+unfolding linesGoingOn pastFirst
+first-line line byte [] =
+    by-test (eqb byte lineFeed) (λ ends. rw ends) (λ other. rw other (cut-off line byte))
+first-line line byte (next ∷ text) =
+    by-test (eqb byte lineFeed) (λ ends. rw ends)
+    (λ other. rw other
+    (first-line (line ++ (byte ∷ [])) next text
+    ∙ rw (append-assoc line (byte ∷ []) (take (pastFirst (next ∷ text)) (next ∷ text)))))
+
+lines-first : (text : List ℕ) → 0 < length text → linesOf text ≡ take (pastFirst text) text ∷ linesOf (drop (pastFirst text) text)
+lines-first [] some = absurd (omega arith)
+lines-first (byte ∷ text) some = first-line [] byte text
+
+-- Before the end something is said of a line.
+more-said : (said : Said) (more : List Said) → ¬ (said ≡ end) → untilEnd said more ≡ said ∷ more
+more-said end more other = absurd (other refl)
+more-said (numbers given) more other = refl
+more-said (refusal fault) more other = refl
+
+abbrev alone : List ℕ → Said
+alone line = readFrame line 0 .said
+
+-- One reading, and those from the next place.
+module _ (text : List ℕ) (place : ℕ) (within : place < length text) where
+  abbrev rest : List ℕ
+  rest = drop place text
+
+  some : 0 < length rest
+  some = rw length-drop (omega arith)
+
+  next-is : readFrame text place .next ≡ place + pastFirst rest
+  unfolding pastLineFeed
+  next-is = next-past text place (bytesOf frameWidths) within
+
+  reading-on : (more : List Said) → more ≡ map alone (linesOf (drop (readFrame text place .next) text))
+      → untilEnd (readFrame text place .said) more ≡ map alone (linesOf rest)
+  reading-on more is =
+      let before : ¬ (readFrame text place .said ≡ end) = λ ends. let past = read-refused-exactly .ends text place .0 ends in omega arith in
+      let after : drop (readFrame text place .next) text ≡ drop (pastFirst rest) rest =
+      ap (λ (next : ℕ). drop next text) next-is ∙ sym (drop-drop (pastFirst rest) place text) in
+      more-said (readFrame text place .said) more before
+      ∙ rw (is, said-alone frameWidths text place within, after, lines-first rest some)
+
+readings : (text : List ℕ) (place n : ℕ) → length text ≤ place + n → linesFrom text place n ≡ map alone (linesOf (drop place text))
+unfolding linesFrom linesGoingOn
+readings text place zero enough = let at-end : length text ≤ place = omega arith in rw (drop-of-length-le text at-end)
+readings text place (suc n) enough =
+    by-test (leb (length text) place)
+    (λ past.
+    let at-end : length text ≤ place = leb-true _ _ past in
+    rw (drop-of-length-le text at-end, read-refused-exactly .ends text place .1 at-end))
+    (λ more.
+    let within : place < length text = leb-false _ _ more in
+    let next : readFrame text place .next ≡ place + pastFirst (drop place text) = next-is text place within in
+    let moved : 0 < pastFirst (drop place text) = past-some (drop place text) (some text place within) in
+    reading-on text place within (linesFrom text (readFrame text place .next) n) (readings text (readFrame text place .next) n (omega arith)))
+
+pub lines-are-readings : LinesAreReadings
+lines-are-readings text = sym (readings text 0 (length text) (omega arith))

@@ -1,0 +1,29 @@
+-- The whole case of document 01 ("The program's text"), computed from the definition.
+use mathlib.Core.Path.{refl}
+use Rattle.text.specs.Transcript.{emptyStore, transcript, rulesFrom, tableThen, framesFrom}
+use Rattle.text.specs.Lines.{linesGoingOn}
+use Rattle.text.specs.Replies.{replyLine}
+use Rattle.lines.specs.Digits.{isDigit, digitValue, digitsAt, hexAt, digitByte, digits}
+use Rattle.lines.specs.Line.{rightAt, sumAt, lineAt}
+use Rattle.rules.specs.Table.{checkOf, lengthPasses, rowPasses, limitsPass, faultOf, firstFault}
+use Rattle.rules.specs.Kinds.{kindAt}
+use Rattle.rules.specs.Rows.{numbersAt}
+use Rattle.rules.specs.Stretches.{offset}
+use Rattle.meaning.specs.Interval.{endOf}
+use Rattle.meaning.specs.Figure.{figure}
+use Rattle.meaning.specs.FrameTime.{frameTime}
+use Rattle.meaning.specs.Spans.{clip, join, update}
+use Rattle.spans.specs.Layout.{endAt, spansFrom, wordsOf, packed, zeros?}
+use Rattle.spans.specs.Stretch.{covered}
+use Rattle.spans.specs.StretchSound.{soundSpan?, soundFrom?, soundEndless?, soundSpans?, soundStretch?}
+use Rattle.monitor.specs.Record.{stretchAt, nothingSeen}
+use Rattle.monitor.specs.Soundness.{every, soundEntry?, soundRow?, sound?}
+use Rattle.monitor.specs.Ready.{readyOf}
+use Rattle.monitor.specs.Start.{startOf}
+use Rattle.monitor.specs.Event.{spansAfter, truthOf, truthsAfter, countsAfter, wordsDone, storeAfter, recordAfter}
+use Rattle.monitor.specs.Step.{refusalOf, stepOf}
+use Rattle.text_promises.specs.WholeCase.{WholeCase}
+
+pub whole-case : WholeCase
+unfolding emptyStore transcript rulesFrom tableThen framesFrom linesGoingOn replyLine isDigit digitValue digitsAt hexAt digitByte digits rightAt sumAt lineAt checkOf lengthPasses rowPasses limitsPass faultOf firstFault kindAt numbersAt offset endOf figure frameTime clip join update endAt spansFrom wordsOf packed covered soundSpan? soundFrom? soundEndless? soundSpans? zeros? soundStretch? stretchAt nothingSeen every soundEntry? soundRow? sound? readyOf startOf spansAfter truthOf truthsAfter countsAfter wordsDone storeAfter recordAfter refusalOf stepOf
+whole-case = refl
