@@ -8,5 +8,6 @@ pub mod HeldLaws
 pub mod OwedLaws
 pub mod Cutting
 pub mod Meaning
+pub mod LineTimes
 pub mod Outcomes
 pub mod WholeCase

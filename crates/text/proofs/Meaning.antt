@@ -6,6 +6,7 @@ use Prim.Native.Nat.{ℕ}
 use borrow.Author.Tests.{eq-eqb, ne-eqb, lt-leb}
 use Rattle.rules.specs.Limits.{rowLimit}
 use Rattle.rules.specs.Rows.{rowsOf}
+use Rattle.rules.specs.Stretches.{needOf}
 use Rattle.lines.specs.Digits.{byteAt}
 use Rattle.lines.specs.Line.{lineFeed}
 use Rattle.lines.specs.Read.{Said, end, numbers, refusal}
@@ -16,11 +17,12 @@ use Rattle.promises.proofs.CallKept.{call-kept}
 use Rattle.promises.proofs.StreamKept.{stream-kept}
 use Rattle.promises.proofs.Verdicts.{truths-are-meaning, verdict-is-meaning}
 use Rattle.text.specs.Lines.{linesOf}
+use Rattle.text.specs.Replies.{needLine}
 use Rattle.text.specs.Transcript.{emptyStore, Running, frameOf, replyOf, frameReply, frameLeaves, framesFrom, tableThen, rulesFrom, transcript}
 use Rattle.text.specs.Meaning.{FrameMeant, LineMeant, callsAfter, Meant, RulesThen, emptyLine, ruleLine, TranscriptTellsTheMeaning}
 
 -- What the monitor has after the calls so far.
-abbrev runningAfter : List ℕ → List Call → Running
+abbrev pub runningAfter : List ℕ → List Call → Running
 runningAfter table calls =
     record { table = table; found = state table emptyStore calls .found; store = state table emptyStore calls .store }
 
@@ -72,7 +74,14 @@ rules-then table _ _ _ (emptyLine {line = line} feed) = rw (eq-eqb (byteAt line 
 rules-then table _ whole rest (ruleLine {line = line} {given = given} {lines = lines} other few said more) =
     rw (ne-eqb (byteAt line 0) lineFeed other, lt-leb rowLimit (rowsOf table) few, said) (rules-then (table ++ given) lines whole rest more)
 
-pub transcript-tells-the-meaning : TranscriptTellsTheMeaning
+-- What is written after them: the need, and the frames' replies from the start.
+pub frames-follow : (text table : List ℕ) (lines : List (List ℕ))
+    → RulesThen [] (linesOf text) table lines
+    → Starts table emptyStore
+    → transcript text ≡ needLine (needOf table) ++ framesFrom (runningAfter table []) lines
 unfolding tableThen transcript after
+frames-follow text table lines rules starts = rules-then [] (linesOf text) table lines rules ∙ rw starts
+
+pub transcript-tells-the-meaning : TranscriptTellsTheMeaning
 transcript-tells-the-meaning text table lines rules starts =
-    (framesFrom (runningAfter table []) lines, rules-then [] (linesOf text) table lines rules ∙ rw starts, frames-meant table [] lines starts)
+    (framesFrom (runningAfter table []) lines, frames-follow text table lines rules starts, frames-meant table [] lines starts)

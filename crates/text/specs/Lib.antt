@@ -8,3 +8,4 @@ pub mod Turn
 pub mod Feed
 pub mod Cutting
 pub mod Meaning
+pub mod LineTimes
