@@ -1,37 +1,25 @@
 -- One call, where the invariant holds. A kept call is accepted and the invariant holds of the longer history; any other is refused, 6 over the limit and
 -- else 5, and changes nothing.
-use mathlib.Core.Bool.{Bool, true, false, cond, _&&_}
+use mathlib.Core.Bool.{Bool, cond}
 use mathlib.Core.List.{List, _∷_}
 use mathlib.Core.Logic.{_⊎_, inl, inr}
 use mathlib.Core.Option.{none}
 use mathlib.Core.Path.{_≡_, refl, ap}
 use Prim.Native.Nat.{ℕ, _-_, _≤_, _<_}
 use native.Mathlib.Omega.{arith}
-use lib.Dec.{leb}
 use Rattle.meaning.specs.FrameTime.{frameTime}
 use Rattle.meaning.specs.History.{History, lastTime}
-use Rattle.meaning.proofs.SpansLaws.{by-leb}
 use Rattle.rules.specs.Rows.{rowsOf}
 use Rattle.rules.specs.Refusals.{Refused, refused}
 use Rattle.rules.specs.declared.refusal.Refusal.the-variants.{Earlier, Late}
 use Rattle.monitor.specs.Record.{timeLimit, truthAt}
 use Rattle.monitor.specs.Step.{Call, event, frame, timeOf, maskOf, refusalOf, verdict, refusal, stepOf}
 use Rattle.promises.specs.Stream.{State, setupOf, call, next, callTime, Keeps, keeps?, eventOf}
-use Rattle.promises.specs.Invariant.{Invariant}
+use Rattle.promises.proofs.Invariant.{Invariant}
 use Rattle.promises.specs.Refusing.{six, five}
 use Rattle.promises.proofs.Refusing.{call-passes, refused-exactly, refusal-changes-nothing}
+use Rattle.promises.proofs.StreamLaws.{keeps-cases}
 use Rattle.promises.proofs.EventKept.{event-kept}
-
--- By cases: the call is kept, or its time is over the limit, or it is below the last.
-keeps-cases : (P : Bool → Type 0) (last : ℕ) (c : Call)
-    → (Keeps last c → P true)
-    → (timeLimit < callTime last c → P false)
-    → (callTime last c ≤ timeLimit → callTime last c < last → P false)
-    → P (keeps? last c)
-keeps-cases P last c kept late earlier =
-    by-leb (λ within. P (within && leb last (callTime last c))) (callTime last c) timeLimit
-    (λ within. by-leb P last (callTime last c) (λ risen. kept (record { within = within; risen = risen })) (earlier within))
-    late
 
 module _ {table : List ℕ} {h : History} {clock : ℕ} {s : State} (inv : Invariant table h clock s) (c : Call) where
   -- The time of the call is the stream's.

@@ -29,7 +29,7 @@ use Rattle.monitor.proofs.CoverLaws.{covered-told}
 use Rattle.monitor.specs.Event.{Moment, spansBy, spansAfter, truthBy, truthOf, truthsAfter, spansNow, storeAfter, recordAfter}
 use Rattle.promises.specs.Stream.{State}
 use Rattle.promises.specs.Spans.{NamedHolds}
-use Rattle.promises.specs.Invariant.{anySeen, Says, Spanned, RowFollows, Invariant}
+use Rattle.promises.proofs.Invariant.{anySeen, Says, Spanned, RowFollows, Invariant}
 use Rattle.promises.proofs.RowsAfter.{Room, truth-set, length-store, row-laid}
 use Rattle.promises.proofs.RangeLaws.{range-order}
 use Rattle.promises.proofs.SoundAfter.{room-after}

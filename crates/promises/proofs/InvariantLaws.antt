@@ -10,7 +10,7 @@ use Rattle.rules.proofs.PassedLaws.{InRange, Passed, passed-gives}
 use Rattle.monitor.specs.Record.{timeLimit, spansFound}
 use Rattle.monitor.proofs.LayoutLaws.{laid-read}
 use Rattle.promises.specs.Stream.{State}
-use Rattle.promises.specs.Invariant.{Invariant}
+use Rattle.promises.proofs.Invariant.{Invariant}
 use Rattle.promises.proofs.TableRefusals.{table-passes}
 use Rattle.promises.proofs.SpannedLaws.{spanned-sound, spanned-stored}
 

@@ -2,9 +2,12 @@
 pub mod RowsAfter
 pub mod RangeLaws
 pub mod Deciding
+pub mod StreamLaws
+pub mod Invariant
 pub mod TableTold
 pub mod TableRefusals
 pub mod StretchTold
+pub mod Need
 pub mod RecordTold
 pub mod Refusing
 pub mod AsIfNotMade

@@ -19,7 +19,7 @@ use Rattle.promises.specs.Refusing.{TableRefused, StartRefused, CallRefu
 use Rattle.promises.specs.AsIfNotMade.{judged}
 use Rattle.promises.specs.TextRead.{linesRead, goodLines, counterIn, frameIn, framesOf, countersOf}
 use Rattle.promises.specs.LineTimes.{replies, recordTimes, Every, acceptedTimes, LineTimesAreTrue, TextTimesAreTrue, FramesNeverEarlier}
-use Rattle.promises.specs.Invariant.{Invariant}
+use Rattle.promises.proofs.Invariant.{Invariant}
 use Rattle.promises.proofs.Refusing.{refused-exactly, refusal-changes-nothing}
 use Rattle.promises.proofs.StartRight.{start-right}
 use Rattle.promises.proofs.CallKept.{kept-reply, only-kept, call-kept}

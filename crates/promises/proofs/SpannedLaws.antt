@@ -21,7 +21,7 @@ use Rattle.monitor.specs.Record.{timeLimit}
 use Rattle.monitor.proofs.LayoutLaws.{Stored}
 use Rattle.monitor.proofs.SoundTold.{sound-stored}
 use Rattle.promises.specs.Spans.{NamedHolds}
-use Rattle.promises.specs.Invariant.{Spanned}
+use Rattle.promises.proofs.Invariant.{Spanned}
 use Rattle.promises.proofs.RangeLaws.{range-order, latest-word, latest-most}
 use Rattle.promises.proofs.StretchTold.{none-sound}
 use Rattle.promises.proofs.SoundAfter.{RowSound}

@@ -18,7 +18,7 @@ use Rattle.rules.proofs.PassedLaws.{passed-formula}
 use Rattle.monitor.specs.Record.{truthAt}
 use Rattle.promises.specs.Stream.{State, state, history}
 use Rattle.promises.specs.Spans.{RowRuns, Runned, SpansAreTheRuns}
-use Rattle.promises.specs.Invariant.{Says, Invariant}
+use Rattle.promises.proofs.Invariant.{Says, Invariant}
 use Rattle.promises.proofs.SpannedLaws.{spanned-none}
 use Rattle.promises.proofs.InvariantLaws.{passes}
 use Rattle.promises.proofs.StreamKept.{stream-kept}

@@ -5,7 +5,7 @@ use Prim.Native.Nat.{ℕ}
 use Rattle.meaning.specs.History.{History, lastTime}
 use Rattle.monitor.specs.Step.{Call}
 use Rattle.promises.specs.Stream.{State, Starts, started, after, kept, state, history, clock}
-use Rattle.promises.specs.Invariant.{Invariant}
+use Rattle.promises.proofs.Invariant.{Invariant}
 use Rattle.promises.proofs.StartRight.{start-right}
 use Rattle.promises.proofs.CallKept.{next-kept}
 

@@ -1,5 +1,6 @@
 -- The test of a row's stretch tells document 01's conditions on it, in both directions, where table and store passed before it. A row that is no since
 -- row has an empty stretch, which is right.
+use mathlib.Core.Bool.{false}
 use mathlib.Core.List.{List, []}
 use mathlib.Core.Logic.{_⊎_, inl, inr, ⊎-elim}
 use mathlib.Core.Path.{_≡_, refl}
@@ -10,12 +11,12 @@ use Rattle.meaning.specs.Interval.{End, upTo, noEnd, endOf, _+End_}
 use Rattle.meaning.specs.Sound.{SoundFrom, SoundEndless, SoundSpans, lengthOf}
 use Rattle.meaning.specs.Figure.{figure}
 use Rattle.meaning.proofs.Tells.{Tells, tells-eqb, tells-same, tells-decided}
-use Rattle.rules.specs.Kinds.{kindAt}
-use Rattle.rules.specs.Rows.{rowsOf, numbersAt}
+use Rattle.rules.specs.Kinds.{rowX, rowY, stretch, kindAt, hasStretch}
+use Rattle.rules.specs.Rows.{rowsOf, numbersAt, ruleOf}
 use Rattle.rules.specs.Stretches.{spansOf, width, offset, needOf}
 use Rattle.rules.specs.declared.numbers.Numbers.{Numbers}
 use Rattle.rules.proofs.PassedLaws.{InRange}
-use Rattle.rules.proofs.StretchesLaws.{stretch-before}
+use Rattle.rules.proofs.StretchesLaws.{spans-by-column, stretch-before}
 use Rattle.monitor.specs.declared.record.Record.{Record}
 use Rattle.monitor.specs.Layout.{wordOf, endAt, wordsOf, packed}
 use Rattle.monitor.specs.Record.{timeLimit, heldAt, stretchAt}
@@ -28,15 +29,15 @@ use Rattle.promises.proofs.RangeLaws.{latest-word, latest-most}
 pub since-or-other : (n : Numbers) → IsSince n ⊎ (¬ IsSince n)
 since-or-other n = tells-decided (tells-eqb (n .kind) _)
 
-pub since-spans : (n : Numbers) → IsSince n → spansOf n ≡ figure (n .a) (endOf (n .b))
+pub since-rule : (n : Numbers) → IsSince n → ruleOf n ≡ stretch rowX rowY
 unfolding kindAt
-since-spans n since = rw since
+since-rule n since = rw since
 
-pub other-spans : (n : Numbers) → ¬ IsSince n → spansOf n ≡ 0
+pub other-rule : (n : Numbers) → ¬ IsSince n → hasStretch (ruleOf n) ≡ false
 unfolding kindAt
-other-spans n other = go (n .kind) refl
+other-rule n other = go (n .kind) refl
   where
-    go : (kind : ℕ) → n .kind ≡ kind → spansOf n ≡ 0
+    go : (kind : ℕ) → n .kind ≡ kind → hasStretch (ruleOf n) ≡ false
     go zero e = rw e
     go (suc zero) e = rw e
     go (suc (suc zero)) e = rw e
@@ -45,6 +46,12 @@ other-spans n other = go (n .kind) refl
     go (suc (suc (suc (suc (suc zero))))) e = rw e
     go (suc (suc (suc (suc (suc (suc zero)))))) e = absurd (other e)
     go (suc (suc (suc (suc (suc (suc (suc kind))))))) e = rw e
+
+pub since-spans : (n : Numbers) → IsSince n → spansOf n ≡ figure (n .a) (endOf (n .b))
+since-spans n since = rw (since-rule n since)
+
+pub other-spans : (n : Numbers) → ¬ IsSince n → spansOf n ≡ 0
+other-spans n other = rw (spans-by-column (ruleOf n) n, other-rule n other)
 
 pub in-range-of : {a b : ℕ} → LimitsRight a b → InRange a b
 in-range-of limits = record { least = limits .low; most = ⊎-elim inr inl (limits .high) }

@@ -14,7 +14,7 @@ use Rattle.monitor.specs.Record.{truthAt}
 use Rattle.monitor.specs.Step.{Call, verdict}
 use Rattle.promises.specs.Stream.{Starts, Keeps, eventOf, state, history, clock, outcome, longer, callTime, next}
 use Rattle.promises.specs.Verdicts.{Answered, TruthsAreMeaning, judgedFormula, VerdictIsMeaning}
-use Rattle.promises.specs.Invariant.{Invariant}
+use Rattle.promises.proofs.Invariant.{Invariant}
 use Rattle.promises.proofs.InvariantLaws.{passes}
 use Rattle.promises.proofs.CallKept.{kept-reply, late-reply, earlier-reply, call-kept, only-kept}
 use Rattle.promises.proofs.StreamKept.{stream-kept}

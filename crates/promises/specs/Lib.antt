@@ -1,4 +1,4 @@
--- What is promised, in the order in which to read it. The proofs are in proofs/, under the same names.
+-- What is promised, in the order in which to read it. docs/PROMISES.md says where each is proved.
 pub mod Stream
 pub mod Conditions
 pub mod Refusing
@@ -9,7 +9,7 @@ pub mod TextAsIfNotMade
 pub mod Words
 pub mod Verdicts
 pub mod LineTimes
+pub mod Need
 pub mod Spans
 pub mod Room
-pub mod Invariant
 pub mod OneOutcome

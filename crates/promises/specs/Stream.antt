@@ -1,7 +1,7 @@
 -- A stream: any list of calls, of any length, with any times, counters and masks, from a good start on a table that passes and a store of any
 -- contents with at least the need. And which of its calls are kept, by their times alone.
 use mathlib.Core.Bool.{Bool, cond, _&&_}
-use mathlib.Core.List.{List, [], _∷_}
+use mathlib.Core.List.{List, [], _∷_, _++_}
 use mathlib.Core.Option.{none}
 use mathlib.Core.Path.{_≡_}
 use Prim.Native.Nat.{ℕ, _≤_}
@@ -77,3 +77,9 @@ outcome table store calls c = call table (state table store calls) c
 
 abbrev pub longer : List Call → Call → History
 longer calls c = eventOf (clock calls) c ∷ history calls
+
+-- So it is: the state after the list with this call at its end is what the call leaves, and the history of that list is the longer one or the same.
+pub record OneMore (table store : List ℕ) (calls : List Call) (c : Call) : Type 0 where
+  pub left : state table store (calls ++ (c ∷ [])) ≡ next table (state table store calls) c
+  pub kept : Keeps (clock calls) c → history (calls ++ (c ∷ [])) ≡ longer calls c
+  pub other : ¬ Keeps (clock calls) c → history (calls ++ (c ∷ [])) ≡ history calls

@@ -12,7 +12,8 @@ use Rattle.lines.specs.Line.{lineFeed}
 use Rattle.lines.specs.Read.{Said, end, numbers, refusal}
 use Rattle.lines.specs.Frame.{readFrame}
 use Rattle.monitor.specs.Step.{Call}
-use Rattle.promises.specs.Stream.{State, Starts, next, after, callTime, state, started, clock, outcome}
+use Rattle.promises.specs.Stream.{Starts, after, callTime, state, clock, outcome}
+use Rattle.promises.proofs.StreamLaws.{one-more}
 use Rattle.promises.proofs.CallKept.{call-kept}
 use Rattle.promises.proofs.StreamKept.{stream-kept}
 use Rattle.promises.proofs.Verdicts.{truths-are-meaning, verdict-is-meaning}
@@ -26,14 +27,9 @@ abbrev pub runningAfter : List ℕ → List Call → Running
 runningAfter table calls =
     record { table = table; found = state table emptyStore calls .found; store = state table emptyStore calls .store }
 
-after-more : (table : List ℕ) (s : State) (calls : List Call) (c : Call) → after table s (calls ++ (c ∷ [])) ≡ next table (after table s calls) c
-unfolding after
-after-more table s [] c = refl
-after-more table s (first ∷ calls) c = after-more table (next table s first) calls c
-
 leaves-more : (table : List ℕ) (calls : List Call) (said : Said) → frameLeaves (runningAfter table calls) said ≡ runningAfter table (callsAfter calls said)
 leaves-more table calls end = refl
-leaves-more table calls (numbers given) = rw (after-more table (started table emptyStore) calls (frameOf given))
+leaves-more table calls (numbers given) = rw (one-more table emptyStore calls (frameOf given) .left)
 leaves-more table calls (refusal fault) = refl
 
 frame-meant : (table : List ℕ) (calls : List Call) (c : Call) → Starts table emptyStore
