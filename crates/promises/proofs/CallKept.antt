@@ -21,6 +21,11 @@ use Rattle.promises.proofs.Refusing.{call-passes, refused-exactly, refu
 use Rattle.promises.proofs.StreamLaws.{keeps-cases}
 use Rattle.promises.proofs.EventKept.{event-kept}
 
+-- A refused call leaves the state.
+pub refused-same : (table : List ℕ) (s : State) (c : Call) {fault : Refused} → call table s c .reply ≡ refusal fault → next table s c ≡ s
+refused-same table s c {fault} refused =
+    let (left, words) = refusal-changes-nothing .call (setupOf table) (s .store) (s .found) c fault refused in rw (left, words)
+
 module _ {table : List ℕ} {h : History} {clock : ℕ} {s : State} (inv : Invariant table h clock s) (c : Call) where
   -- The time of the call is the stream's.
   time-same : timeOf (s .found) c ≡ callTime clock c
@@ -40,7 +45,7 @@ module _ {table : List ℕ} {h : History} {clock : ℕ} {s : State} (inv : Invar
         risen = omega (arith, time-same, inv .time, keeps .risen);
       })
 
-  -- What is answered, and that a refused call leaves the state.
+  -- What is answered.
   pub kept-reply : Keeps clock c → call table s c .reply ≡ verdict (truthAt (call table s c .left .truths) (rowsOf table - 1))
   unfolding stepOf
   kept-reply keeps = rw (accepted keeps)
@@ -54,10 +59,6 @@ module _ {table : List ℕ} {h : History} {clock : ℕ} {s : State} (inv : Invar
   earlier-reply within below =
       refused-exactly .call (setupOf table) (s .store) (s .found) c (refused Earlier) .1
       (five (inv .ready) (inv .sound) (omega (arith, time-same)) (omega (arith, time-same, inv .time)))
-
-  refused-same : {fault : Refused} → call table s c .reply ≡ refusal fault → next table s c ≡ s
-  refused-same {fault} refused =
-      let (left, words) = refusal-changes-nothing .call (setupOf table) (s .store) (s .found) c fault refused in rw (left, words)
 
   -- A kept call keeps the invariant.
   pub call-kept : Keeps clock c → Invariant table (eventOf clock c ∷ h) (callTime clock c) (next table s c)
@@ -98,5 +99,5 @@ next-kept table h s inv c events same =
     (lastTime h)
     c
     (call-kept inv c)
-    (λ over. rw (refused-same inv c (late-reply inv c over)) inv)
-    (λ within below. rw (refused-same inv c (earlier-reply inv c within below)) inv))
+    (λ over. rw (refused-same table s c (late-reply inv c over)) inv)
+    (λ within below. rw (refused-same table s c (earlier-reply inv c within below)) inv))

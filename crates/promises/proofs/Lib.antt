@@ -10,6 +10,7 @@ pub mod StretchTold
 pub mod Need
 pub mod RecordTold
 pub mod Refusing
+pub mod LeftOut
 pub mod AsIfNotMade
 pub mod Reading
 pub mod TextRead

@@ -1,7 +1,7 @@
 -- Line times are true times. By induction over the good lines, from any state where the stream's invariant holds with the last true time as its clock: the
 -- time of a frame is its true time, so it is kept, and the invariant holds after it with this time. A frame that is refused leaves all as it was.
 use mathlib.Core.List.{List, [], _∷_, map}
-use mathlib.Core.Path.{_≡_, refl, ap, subst}
+use mathlib.Core.Path.{_≡_, refl, sym, ap, subst}
 use Prim.Native.Nat.{ℕ, _-_, _≤_, _<_}
 use native.Mathlib.Omega.{arith}
 use lib.Dec.{T}
@@ -13,16 +13,16 @@ use Rattle.rules.specs.declared.refusal.Refusal.the-variants.{Earlier}
 use Rattle.monitor.specs.declared.record.Record.{Record}
 use Rattle.monitor.specs.Record.{timeLimit}
 use Rattle.monitor.specs.Step.{Setup, frame, Reply, verdict, refusal}
-use Rattle.promises.specs.Stream.{State, setupOf, call, next, started, Keeps, eventOf, callTime}
+use Rattle.promises.specs.Stream.{State, call, next, started, Keeps, eventOf, callTime}
 use Rattle.promises.specs.Refusing as Refusing
 use Rattle.promises.specs.Refusing.{TableRefused, StartRefused, CallRefused}
 use Rattle.promises.specs.AsIfNotMade.{judged}
 use Rattle.promises.specs.TextRead.{linesRead, goodLines, counterIn, frameIn, framesOf, countersOf}
 use Rattle.promises.specs.LineTimes.{replies, recordTimes, Every, acceptedTimes, LineTimesAreTrue, TextTimesAreTrue, FramesNeverEarlier}
 use Rattle.promises.proofs.Invariant.{Invariant}
-use Rattle.promises.proofs.Refusing.{refused-exactly, refusal-changes-nothing}
+use Rattle.promises.proofs.Refusing.{refused-exactly}
 use Rattle.promises.proofs.StartRight.{start-right}
-use Rattle.promises.proofs.CallKept.{kept-reply, only-kept, call-kept}
+use Rattle.promises.proofs.CallKept.{refused-same, kept-reply, only-kept, call-kept}
 
 -- True times go on from 0.
 true-close : (times : List ℕ) → TrueTimes times → Close 0 times
@@ -105,9 +105,7 @@ module _ (table : List ℕ) where
           let on = after inv given time same risen gap (only-kept inv (frameIn given) holds e) in
           rw (e, on .time) (ap (λ (later : List ℕ). time ∷ later) (more _ _ _ on further))
       go (refusal fault) e close =
-          let (left, words) = refusal-changes-nothing .call (setupOf table) (s .store) (s .found) (frameIn given) fault e in
-          let same-state : s ≡ next table s (frameIn given) = rw (left, words) in
-          rw e (more h last _ (subst (Invariant table h last) same-state inv) (rw e at close))
+          rw e (more h last _ (subst (Invariant table h last) (sym (refused-same table s (frameIn given) e)) inv) (rw e at close))
 
   accepted-true : {lines : List (List ℕ)} {times : List ℕ} → Counted lines times → AcceptedTrue lines times
   unfolding replies recordTimes acceptedTimes

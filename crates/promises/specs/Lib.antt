@@ -2,6 +2,7 @@
 pub mod Stream
 pub mod Conditions
 pub mod Refusing
+pub mod LeftOut
 pub mod AsIfNotMade
 pub mod Reading
 pub mod TextRead
