@@ -2,13 +2,13 @@
 -- row's spans are laid out in its stretch, and those after the event have room there, whatever the truths of the lower rows.
 use mathlib.Core.Bool.{Bool, true, false, cond}
 use mathlib.Core.List.{List}
-use mathlib.Core.Logic.{_⊎_, ⊎-elim}
+use mathlib.Core.Logic.{⊎-elim}
 use mathlib.Core.Option.{Option, none, some}
 use mathlib.Core.Path.{_≡_, refl, sym, subst}
-use Prim.Native.Nat.{ℕ, _+_, _*_, _-_, _^_, _≤_, _<_}
+use Prim.Native.Nat.{ℕ, _+_, _*_, _^_, _≤_, _<_}
 use native.Mathlib.Omega.{arith}
 use lib.Dec.{T, leb, eqb}
-use lib.ListN.{length, length-take, length-drop}
+use lib.ListN.{length}
 use borrow.Author.Tests.{leb-true}
 use Rattle.meaning.specs.Interval.{upTo, noEnd, noEndNumber, endOf, _≤End_, _+End_}
 use Rattle.meaning.specs.Spans.{reach, update}
@@ -36,6 +36,7 @@ use Rattle.monitor.proofs.LayoutLaws.{Storable, end-back}
 use Rattle.monitor.proofs.SoundTold.{stretch-told}
 use Rattle.monitor.proofs.StretchKept.{sound-packed, sound-ready}
 use Rattle.monitor.proofs.ReadyLaws.{Ready, ready-none}
+use Rattle.monitor.proofs.EventLaws.{length-stretch}
 use Rattle.monitor.proofs.ReachLaws.{reach-storable, reach-word}
 use Rattle.monitor.proofs.SoundnessLaws.{every-at, sound-parts}
 
@@ -55,20 +56,20 @@ unless-none true refusal h = refl
 unless-none false refusal h = let z : _≡_ {A = ℕ} 0 1 = cc in absurd (omega arith)
 
 pub accepted : (setup : Setup) (store : List ℕ) (found : Kept.Record) (call : Call) → refusalOf setup store found call ≡ none
-    → Accepted (setup .table) store found (timeOf found call)
+    → Accepted (setup .table) store found (timeOf (found .time) call)
 unfolding refusalOf
 accepted setup store found call h =
     let sound : Option Refused = unless (sound? (setup .table) store found) Record in
-    let early : Option Refused = unless (leb (timeOf found call) timeLimit) Late in
-    let risen : Option Refused = unless (leb (found .time) (timeOf found call)) Earlier in
+    let early : Option Refused = unless (leb (timeOf (found .time) call) timeLimit) Late in
+    let risen : Option Refused = unless (leb (found .time) (timeOf (found .time) call)) Earlier in
     let first = or-none (refusalIn (readyOf (setup .table) (length store))) (sound orElse early orElse risen) h in
     let second = or-none sound (early orElse risen) (first .1) in
     let third = or-none early risen (second .1) in
     record {
       ready = ready-none (setup .table) (length store) (first .0);
       sound = unless-none (sound? (setup .table) store found) Record (second .0);
-      early = leb-true _ _ (unless-none (leb (timeOf found call) timeLimit) Late (third .0));
-      risen = leb-true _ _ (unless-none (leb (found .time) (timeOf found call)) Earlier (third .1));
+      early = leb-true _ _ (unless-none (leb (timeOf (found .time) call) timeLimit) Late (third .0));
+      risen = leb-true _ _ (unless-none (leb (found .time) (timeOf (found .time) call)) Earlier (third .1));
     }
 
 -- Limits in range: b fits a number of the table, and a is not past b.
@@ -93,12 +94,6 @@ module _ (table store : List ℕ) (found : Kept.Record) (time : ℕ) (met : Acce
 
     pub row-inside : offset table row + width numbers ≤ length store
     row-inside = omega (arith, stretch-before table row (rowsOf table) lower, met .ready .room)
-
-    pub length-stretch : length (stretchAt table store row) ≡ width numbers
-    unfolding stretchAt
-    length-stretch =
-        let inside = row-inside in
-        simp (length-take, length-drop) (omega arith)
 
     stretch-sound :
         SoundStretch (stretchAt table store row) (heldAt found row) (found .time) (found .time + numbers .a)
@@ -143,4 +138,4 @@ module _ (m : Moment) (met : Accepted (m .table) (m .store) (m .found) (m .time)
 
   pub row-enough : 2 * length (spansAfter m row truths) ≤ width N
   unfolding spansAfter
-  row-enough = enough-by (ruleOf N) (length-stretch (m .table) (m .store) (m .found) (m .time) met row lower)
+  row-enough = enough-by (ruleOf N) (length-stretch (m .table) (m .store) row (row-inside (m .table) (m .store) (m .found) (m .time) met row lower))

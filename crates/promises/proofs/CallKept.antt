@@ -4,17 +4,16 @@ use mathlib.Core.Bool.{Bool, cond}
 use mathlib.Core.List.{List, _∷_}
 use mathlib.Core.Logic.{_⊎_, inl, inr}
 use mathlib.Core.Option.{none}
-use mathlib.Core.Path.{_≡_, refl, ap}
+use mathlib.Core.Path.{_≡_, ap}
 use Prim.Native.Nat.{ℕ, _-_, _≤_, _<_}
 use native.Mathlib.Omega.{arith}
-use Rattle.meaning.specs.FrameTime.{frameTime}
 use Rattle.meaning.specs.History.{History, lastTime}
 use Rattle.rules.specs.Rows.{rowsOf}
 use Rattle.rules.specs.Refusals.{Refused, refused}
 use Rattle.rules.specs.declared.refusal.Refusal.the-variants.{Earlier, Late}
 use Rattle.monitor.specs.Record.{timeLimit, truthAt}
-use Rattle.monitor.specs.Step.{Call, event, frame, timeOf, maskOf, refusalOf, verdict, refusal, stepOf}
-use Rattle.promises.specs.Stream.{State, setupOf, call, next, callTime, Keeps, keeps?, eventOf}
+use Rattle.monitor.specs.Step.{setupOf, Call, timeOf, maskOf, refusalOf, verdict, refusal, stepOf}
+use Rattle.promises.specs.Stream.{State, call, next, Keeps, keeps?, eventOf}
 use Rattle.promises.proofs.Invariant.{Invariant}
 use Rattle.promises.specs.Refusing.{six, five}
 use Rattle.promises.proofs.Refusing.{call-passes, refused-exactly, refusal-changes-nothing}
@@ -28,12 +27,8 @@ refused-same table s c {fault} refused =
 
 module _ {table : List ℕ} {h : History} {clock : ℕ} {s : State} (inv : Invariant table h clock s) (c : Call) where
   -- The time of the call is the stream's.
-  time-same : timeOf (s .found) c ≡ callTime clock c
-  time-same = go c
-    where
-      go : (made : Call) → timeOf (s .found) made ≡ callTime clock made
-      go (event time mask) = refl
-      go (frame counter mask) = ap (λ (last : ℕ). frameTime last counter) (inv .time)
+  time-same : timeOf (s .found .time) c ≡ timeOf clock c
+  time-same = ap (λ (last : ℕ). timeOf last c) (inv .time)
 
   accepted : Keeps clock c → refusalOf (setupOf table) (s .store) (s .found) c ≡ none
   accepted keeps =
@@ -50,22 +45,22 @@ module _ {table : List ℕ} {h : History} {clock : ℕ} {s : State} (inv : Invar
   unfolding stepOf
   kept-reply keeps = rw (accepted keeps)
 
-  pub late-reply : timeLimit < callTime clock c → call table s c .reply ≡ refusal (refused Late)
+  pub late-reply : timeLimit < timeOf clock c → call table s c .reply ≡ refusal (refused Late)
   late-reply over =
       refused-exactly .call (setupOf table) (s .store) (s .found) c (refused Late) .1
       (six (inv .ready) (inv .sound) (omega (arith, time-same)))
 
-  pub earlier-reply : callTime clock c ≤ timeLimit → callTime clock c < clock → call table s c .reply ≡ refusal (refused Earlier)
+  pub earlier-reply : timeOf clock c ≤ timeLimit → timeOf clock c < clock → call table s c .reply ≡ refusal (refused Earlier)
   earlier-reply within below =
       refused-exactly .call (setupOf table) (s .store) (s .found) c (refused Earlier) .1
       (five (inv .ready) (inv .sound) (omega (arith, time-same)) (omega (arith, time-same, inv .time)))
 
   -- A kept call keeps the invariant.
-  pub call-kept : Keeps clock c → Invariant table (eventOf clock c ∷ h) (callTime clock c) (next table s c)
+  pub call-kept : Keeps clock c → Invariant table (eventOf clock c ∷ h) (timeOf clock c) (next table s c)
   unfolding stepOf
   call-kept keeps =
       rw (accepted keeps, time-same)
-      (event-kept inv (callTime clock c) (maskOf c) (keeps .risen) (keeps .within))
+      (event-kept inv (timeOf clock c) (maskOf c) (keeps .risen) (keeps .within))
 
   -- By cases on what was answered: a verdict is given to kept calls alone, and no other refusal than 6 and 5.
   not-both : {A : Type 0} {holds : Bool} {fault : Refused} → call table s c .reply ≡ verdict holds → call table s c .reply ≡ refusal fault → A

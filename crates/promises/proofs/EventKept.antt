@@ -26,11 +26,12 @@ use Rattle.rules.proofs.KindsLaws.{PlainNames, Names}
 use Rattle.rules.proofs.PassedLaws.{passed-formula}
 use Rattle.monitor.specs.Record.{timeLimit, truthAt}
 use Rattle.monitor.proofs.CoverLaws.{covered-told}
+use Rattle.monitor.proofs.EventLaws.{Room, length-store}
 use Rattle.monitor.specs.Event.{Moment, spansBy, spansAfter, truthBy, truthOf, truthsAfter, spansNow, storeAfter, recordAfter}
 use Rattle.promises.specs.Stream.{State}
 use Rattle.promises.specs.Spans.{NamedHolds}
 use Rattle.promises.proofs.Invariant.{anySeen, Says, Spanned, RowFollows, Invariant}
-use Rattle.promises.proofs.RowsAfter.{Room, truth-set, length-store, row-laid}
+use Rattle.promises.proofs.RowsAfter.{truth-set, row-laid}
 use Rattle.promises.proofs.RangeLaws.{range-order}
 use Rattle.promises.proofs.SoundAfter.{room-after}
 use Rattle.promises.proofs.SoundIsKept.{sound-after, sized-after}
@@ -166,7 +167,7 @@ module _ {table : List ℕ} {h : History} {clock : ℕ} {s : State} (inv : Invar
   risen = omega (arith, inv .time)
 
   spans-fit : Room m (rowsOf table)
-  spans-fit = room-after m (inv .ready) (inv .sound) risen
+  spans-fit = room-after m (inv .ready) (inv .sound) within risen
 
   abbrev pub stateAfter : State
   stateAfter = record { found = recordAfter m; store = storeAfter m (rowsOf table) }

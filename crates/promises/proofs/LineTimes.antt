@@ -12,8 +12,8 @@ use Rattle.rules.specs.Refusals.{Refused, refused, numberOf}
 use Rattle.rules.specs.declared.refusal.Refusal.the-variants.{Earlier}
 use Rattle.monitor.specs.declared.record.Record.{Record}
 use Rattle.monitor.specs.Record.{timeLimit}
-use Rattle.monitor.specs.Step.{Setup, frame, Reply, verdict, refusal}
-use Rattle.promises.specs.Stream.{State, call, next, started, Keeps, eventOf, callTime}
+use Rattle.monitor.specs.Step.{Setup, timeOf, frame, Reply, verdict, refusal}
+use Rattle.promises.specs.Stream.{State, call, next, started, Keeps, eventOf}
 use Rattle.promises.specs.Refusing as Refusing
 use Rattle.promises.specs.Refusing.{TableRefused, StartRefused, CallRefused}
 use Rattle.promises.specs.AsIfNotMade.{judged}
@@ -48,7 +48,7 @@ counted (given ∷ lines) (time ∷ times) same =
 -- One line more, with the counter of a time that did not fall, after a gap of less than a turn: where its frame is kept, its time is the clock.
 module _ {table : List ℕ} {h : History} {last : ℕ} {s : State} (inv : Invariant table h last s) (given : List ℕ) (time : ℕ)
     (same : counterIn given ≡ counterOf time) (risen : last ≤ time) (gap : time - last < turn) where
-  is-true : callTime last (frameIn given) ≡ time
+  is-true : timeOf last (frameIn given) ≡ time
   is-true = rw same (frame-time-true last time risen gap)
 
   keeps : time ≤ timeLimit → Keeps last (frameIn given)

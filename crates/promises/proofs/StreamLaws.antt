@@ -8,19 +8,19 @@ use Rattle.meaning.specs.History.{History}
 use Rattle.meaning.proofs.SpansLaws.{by-leb}
 use Rattle.meaning.proofs.Tells.{Tells, tells-leb, tells-and, tells-same}
 use Rattle.monitor.specs.Record.{timeLimit}
-use Rattle.monitor.specs.Step.{Call}
-use Rattle.promises.specs.Stream.{State, next, after, started, callTime, Keeps, keeps?, kept, clock, OneMore}
+use Rattle.monitor.specs.Step.{Call, timeOf}
+use Rattle.promises.specs.Stream.{State, next, after, started, Keeps, keeps?, kept, clock, OneMore}
 use Rattle.promises.proofs.Deciding.{told-true, told-false}
 
 -- By cases: the call is kept, or its time is over the limit, or it is below the last.
 pub keeps-cases : (P : Bool → Type 0) (last : ℕ) (c : Call)
     → (Keeps last c → P true)
-    → (timeLimit < callTime last c → P false)
-    → (callTime last c ≤ timeLimit → callTime last c < last → P false)
+    → (timeLimit < timeOf last c → P false)
+    → (timeOf last c ≤ timeLimit → timeOf last c < last → P false)
     → P (keeps? last c)
 keeps-cases P last c kept late earlier =
-    by-leb (λ within. P (within && leb last (callTime last c))) (callTime last c) timeLimit
-    (λ within. by-leb P last (callTime last c) (λ risen. kept (record { within = within; risen = risen })) (earlier within))
+    by-leb (λ within. P (within && leb last (timeOf last c))) (timeOf last c) timeLimit
+    (λ within. by-leb P last (timeOf last c) (λ risen. kept (record { within = within; risen = risen })) (earlier within))
     late
 
 pub after-append : (table : List ℕ) (s : State) (calls more : List Call) → after table s (calls ++ more) ≡ after table (after table s calls) more
@@ -38,7 +38,7 @@ keeps-told last c =
     tells-same
     (λ both. record { within = both .0; risen = both .1 })
     (λ keeps. (keeps .within, keeps .risen))
-    (tells-and (tells-leb (callTime last c) timeLimit) (tells-leb last (callTime last c)))
+    (tells-and (tells-leb (timeOf last c) timeLimit) (tells-leb last (timeOf last c)))
 
 pub one-more : (table store : List ℕ) (calls : List Call) (c : Call) → OneMore table store calls c
 unfolding after kept

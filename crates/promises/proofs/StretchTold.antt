@@ -6,14 +6,15 @@ use mathlib.Core.Logic.{_⊎_, inl, inr, ⊎-elim}
 use mathlib.Core.Path.{_≡_, refl}
 use Prim.Native.Nat.{ℕ, zero, suc, _+_, _≤_, _<_}
 use native.Mathlib.Omega.{arith}
-use lib.ListN.{length, getD, length-take, length-drop}
+use lib.ListN.{length, getD}
 use Rattle.meaning.specs.Interval.{End, upTo, noEnd, endOf, _+End_}
+use Rattle.meaning.specs.Spans.{Span}
 use Rattle.meaning.specs.Sound.{SoundFrom, SoundEndless, SoundSpans, lengthOf}
 use Rattle.meaning.specs.Figure.{figure}
 use Rattle.meaning.proofs.Tells.{Tells, tells-eqb, tells-same, tells-decided}
 use Rattle.rules.specs.Kinds.{rowX, rowY, stretch, kindAt, hasStretch}
 use Rattle.rules.specs.Rows.{rowsOf, numbersAt, ruleOf}
-use Rattle.rules.specs.Stretches.{spansOf, width, offset, needOf}
+use Rattle.rules.specs.Stretches.{spansOf, width}
 use Rattle.rules.specs.declared.numbers.Numbers.{Numbers}
 use Rattle.rules.proofs.PassedLaws.{InRange}
 use Rattle.rules.proofs.StretchesLaws.{spans-by-column, stretch-before}
@@ -21,8 +22,10 @@ use Rattle.monitor.specs.declared.record.Record.{Record}
 use Rattle.monitor.specs.Layout.{wordOf, endAt, wordsOf, packed}
 use Rattle.monitor.specs.Record.{timeLimit, heldAt, stretchAt}
 use Rattle.monitor.specs.Soundness.{soundRow?}
-use Rattle.monitor.proofs.SoundTold.{stretch-told}
-use Rattle.promises.specs.Conditions.{LimitsRight, Ready, IsSince, StretchRight}
+use Rattle.monitor.proofs.LayoutLaws.{Stored}
+use Rattle.monitor.proofs.SoundTold.{sound-stored, stretch-told}
+use Rattle.monitor.proofs.EventLaws.{length-stretch}
+use Rattle.promises.specs.Conditions.{LimitsRight, Ready, IsSince, RowSound, StretchRight}
 use Rattle.promises.proofs.RangeLaws.{latest-word, latest-most}
 
 -- "each since row owns its own stretch", and no other row.
@@ -61,13 +64,15 @@ unfolding SoundSpans SoundFrom SoundEndless
 none-sound now latestFirst (upTo latest) long = tt
 none-sound now latestFirst noEnd long = tt
 
+-- Sound spans can be stored.
+pub row-stored : (n : Numbers) (now : ℕ) (S : List Span) → now ≤ timeLimit → InRange (n .a) (n .b) → RowSound n now S → Stored S
+row-stored n now S within range sound =
+    sound-stored now (now + n .a) (wordOf (now +End endOf (n .b))) (lengthOf (n .a) (endOf (n .b))) S (latest-most now (n .a) (n .b) within range)
+    (rw (latest-word now (n .a) (n .b) within range) sound)
+
 module _ (table store : List ℕ) (ready : Ready table (length store)) (found : Record) where
   stretch-length : (row : ℕ) → row < rowsOf table → length (stretchAt table store row) ≡ width (numbersAt table row)
-  unfolding stretchAt
-  stretch-length row lower =
-      let within : offset table row + width (numbersAt table row) ≤ needOf table = stretch-before table row (rowsOf table) lower in
-      let room : needOf table ≤ length store = ready .room in
-      simp (length-take, length-drop) (omega arith)
+  stretch-length row lower = length-stretch table store row (omega (arith, stretch-before table row (rowsOf table) lower, ready .room))
 
   pub row-stretch-told : found .time ≤ timeLimit
       → (row : ℕ)

@@ -11,8 +11,8 @@ use Rattle.meaning.proofs.NumberedLaws.{numbered-newest}
 use Rattle.rules.specs.Rows.{rowsOf}
 use Rattle.rules.specs.RowFormula.{formulaOf}
 use Rattle.monitor.specs.Record.{truthAt}
-use Rattle.monitor.specs.Step.{Call, verdict}
-use Rattle.promises.specs.Stream.{Starts, Keeps, eventOf, state, history, clock, outcome, longer, callTime, next}
+use Rattle.monitor.specs.Step.{Call, timeOf, verdict}
+use Rattle.promises.specs.Stream.{Starts, Keeps, eventOf, state, history, clock, outcome, longer, next}
 use Rattle.promises.specs.Verdicts.{Answered, TruthsAreMeaning, judgedFormula, VerdictIsMeaning}
 use Rattle.promises.proofs.Invariant.{Invariant}
 use Rattle.promises.proofs.InvariantLaws.{passes}
@@ -23,7 +23,7 @@ module _ (table store : List ℕ) (starts : Starts table store) (calls : List Ca
   before : Invariant table (history calls) (clock calls) (state table store calls)
   before = stream-kept table store starts calls
 
-  after : Keeps (clock calls) c → Invariant table (longer calls c) (callTime (clock calls) c) (next table (state table store calls) c)
+  after : Keeps (clock calls) c → Invariant table (longer calls c) (timeOf (clock calls) c) (next table (state table store calls) c)
   after keeps = call-kept before c keeps
 
   answered : Answered table store calls c

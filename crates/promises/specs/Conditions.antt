@@ -57,11 +57,13 @@ abbrev pub IsSince : Numbers → Type 0
 IsSince n = n .kind ≡ 6
 
 -- "in each stretch: first ≤ last; ..", with t the record's time; "unused words are 0".
+abbrev pub RowSound : Numbers → ℕ → List Span → Type 0
+RowSound n t S = SoundSpans t (t + n .a) (t +End endOf (n .b)) (lengthOf (n .a) (endOf (n .b))) S
+
 pub record StretchRight (table store : List ℕ) (found : Record) (row : ℕ) : Type 0 where
   pub spans : List Span
   pub laid : Laid (width (numbersAt table row)) (stretchAt table store row) (heldAt found row) spans
-  pub sound : SoundSpans (found .time) (found .time + numbersAt table row .a) (found .time +End endOf (numbersAt table row .b))
-      (lengthOf (numbersAt table row .a) (endOf (numbersAt table row .b))) spans
+  pub sound : RowSound (numbersAt table row) (found .time) spans
 
 pub record RecordRight (table store : List ℕ) (found : Record) : Type 0 where
   -- "its row count is the table's; truths past it are false;"

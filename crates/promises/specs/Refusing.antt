@@ -45,12 +45,12 @@ pub data CallRefused (setup : Setup) (store : List ℕ) (found : Kept.Record) (c
       → CallRefused setup store found c (refused Record)
   six : Ready (setup .table) (length store)
       → RecordRight (setup .table) store found
-      → timeLimit < timeOf found c
+      → timeLimit < timeOf (found .time) c
       → CallRefused setup store found c (refused Late)
   five : Ready (setup .table) (length store)
       → RecordRight (setup .table) store found
-      → timeOf found c ≤ timeLimit
-      → timeOf found c < found .time
+      → timeOf (found .time) c ≤ timeLimit
+      → timeOf (found .time) c < found .time
       → CallRefused setup store found c (refused Earlier)
 
 -- Refused with a number and values if and only if the table of refusals says so: for the check, a start, an event or a frame, and the time of a frame.

@@ -11,8 +11,8 @@ use Rattle.lines.specs.Digits.{byteAt}
 use Rattle.lines.specs.Line.{lineFeed}
 use Rattle.lines.specs.Read.{Said, end, numbers, refusal}
 use Rattle.lines.specs.Frame.{readFrame}
-use Rattle.monitor.specs.Step.{Call}
-use Rattle.promises.specs.Stream.{Starts, after, callTime, state, clock, outcome}
+use Rattle.monitor.specs.Step.{Call, timeOf}
+use Rattle.promises.specs.Stream.{Starts, after, state, clock, outcome}
 use Rattle.promises.proofs.StreamLaws.{one-more}
 use Rattle.promises.proofs.CallKept.{call-kept}
 use Rattle.promises.proofs.StreamKept.{stream-kept}
@@ -39,7 +39,7 @@ frame-meant table calls c starts =
     record {
       kept = λ keeps.
           let told = answered .judged keeps in
-          let time : outcome table emptyStore calls c .left .time ≡ callTime (clock calls) c = call-kept (stream-kept table emptyStore starts calls) c keeps .time in
+          let time : outcome table emptyStore calls c .left .time ≡ timeOf (clock calls) c = call-kept (stream-kept table emptyStore starts calls) c keeps .time in
           (told .0, rw (told .1, time), verdict-is-meaning table emptyStore starts calls c (told .0) (told .1) .holding);
       late = λ over. ap (replyOf (outcome table emptyStore calls c .left .time)) (answered .late over);
     }
