@@ -19,7 +19,7 @@ use Rattle.monitor.specs.Layout.{Laid}
 use Rattle.monitor.specs.Record.{truthAt, heldAt, stretchAt}
 use Rattle.promises.specs.Stream.{State}
 use Rattle.promises.specs.Conditions.{Ready, RecordRight}
-use Rattle.promises.specs.Words.{Sized}
+use Rattle.promises.specs.SoundIsKept.{Sized}
 use Rattle.promises.specs.Spans.{RowRuns}
 
 -- "Before the first event there is nothing".

@@ -1,4 +1,4 @@
--- The proofs of what is promised, under the names of specs/, and the laws that they share.
+-- The proofs of what is promised, and the laws that they share.
 pub mod RowsAfter
 pub mod RangeLaws
 pub mod Deciding

@@ -16,7 +16,7 @@ use Rattle.monitor.specs.Event.{Moment, spansNow, countsAfter, storeAfter, reco
 use Rattle.monitor.specs.Step.{Setup, refusalOf, momentOf, verdict, outcome, stepOf}
 use Rattle.monitor.proofs.EventLaws.{Room, length-store}
 use Rattle.promises.specs.Conditions.{Ready, RecordRight}
-use Rattle.promises.specs.Words.{Sized, SoundIsKept}
+use Rattle.promises.specs.SoundIsKept.{Sized, SoundIsKept}
 use Rattle.promises.proofs.RowsAfter.{length-truths, truth-left, length-counts, count-set, count-left, row-laid}
 use Rattle.promises.proofs.StretchTold.{since-spans, other-spans}
 use Rattle.promises.proofs.RecordTold.{within-or-past}

@@ -23,7 +23,7 @@ use Rattle.monitor.specs.Start.{startOf}
 use Rattle.monitor.specs.Event.{Moment, spansAfter, truthOf, truthsAfter, spansNow, countsAfter, wordsDone, recordAfter}
 use Rattle.monitor.specs.Step.{Setup, Call, timeOf, maskOf, refusalOf, momentOf, stepOf}
 use Rattle.monitor.proofs.EventLaws.{spans-same, truth-same, Room, words-done, words-left}
-use Rattle.promises.specs.Words.{SameNeeded, Alike, BegunAlike, SpareWords}
+use Rattle.promises.specs.SpareWords.{SameNeeded, Alike, BegunAlike, SpareWords}
 use Rattle.promises.proofs.TableRefusals.{table-refuses, table-passes, table-decided, start-refuses, start-passes, start-decided}
 use Rattle.promises.proofs.SoundAfter.{room-after}
 use Rattle.promises.proofs.Refusing.{Accepted, accepted-of}

@@ -1,4 +1,4 @@
--- The one induction over a stream: the invariant holds after any list of calls, of the events kept and the clock.
+-- The induction over a stream behind the verdicts and the spans: the invariant holds after any list of calls, of the events kept and the clock.
 use mathlib.Core.List.{List, [], _∷_}
 use mathlib.Core.Path.{refl}
 use Prim.Native.Nat.{ℕ}

@@ -61,5 +61,5 @@ verdict-is-meaning table store starts calls c holds said =
     let numbers = numbered-newest (judgedFormula table) (eventOf (clock calls) c) (history calls) in
     record {
       holding = means;
-      numberedly = (λ yes. numbers .1 (means .0 yes), λ holding. means .1 (numbers .0 holding));
+      by-number = (λ yes. numbers .1 (means .0 yes), λ holding. means .1 (numbers .0 holding));
     }

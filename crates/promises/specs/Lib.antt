@@ -7,7 +7,8 @@ pub mod AsIfNotMade
 pub mod Reading
 pub mod TextRead
 pub mod TextAsIfNotMade
-pub mod Words
+pub mod SpareWords
+pub mod SoundIsKept
 pub mod Verdicts
 pub mod LineTimes
 pub mod Need

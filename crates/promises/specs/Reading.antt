@@ -1,5 +1,5 @@
 -- Demand 1 for reading a frame: 8 and 9 "exactly under the listed conditions", "end" at or past the end, and where the place moves. The conditions are
--- propositions in document 01's words, apart from the definitions that the contract cites.
+-- propositions in document 01's words, apart from the tests that the contract cites (`rightAt`, `lineAt`).
 use mathlib.Core.List.{List, [], _∷_}
 use mathlib.Core.Logic.{_↔_}
 use mathlib.Core.Path.{_≡_}

@@ -30,7 +30,7 @@ RowRuns table row keep feed =
 
 -- At the record's time, which is the clock, the words of the row's stretch lay out the runs, its other words are 0, its count is their number, and its
 -- truth says whether the time lies in them.
-pub record Runned (table : List ℕ) (row : ℕ) (keep feed : Source) (h : History) (clock : ℕ) (s : State) : Type 0 where
+pub record HoldsRuns (table : List ℕ) (row : ℕ) (keep feed : Source) (h : History) (clock : ℕ) (s : State) : Type 0 where
   pub timed : s .found .time ≡ clock
   pub spans : List Span
   pub runs : RowRuns table row keep feed h clock spans
@@ -44,4 +44,4 @@ SpansAreTheRuns = (table store : List ℕ)
     → (calls : List Call) (row : ℕ) (keep feed : Source)
     → row < rowsOf table
     → ruleOf (numbersAt table row) ≡ stretch keep feed
-    → Runned table row keep feed (history calls) (clock calls) (state table store calls)
+    → HoldsRuns table row keep feed (history calls) (clock calls) (state table store calls)

@@ -45,7 +45,7 @@ judgedFormula table = formulaOf table (rowsOf table - 1)
 -- that of the events kept before, counted from 0.
 pub record Meant (table store : List ℕ) (calls : List Call) (c : Call) (holds : Bool) : Type 0 where
   pub holding : T holds ↔ Holds (judgedFormula table) (longer calls c)
-  pub numberedly : T holds ↔ HoldsAt (numbered (longer calls c)) (judgedFormula table) (length (history calls))
+  pub by-number : T holds ↔ HoldsAt (numbered (longer calls c)) (judgedFormula table) (length (history calls))
 
 abbrev pub VerdictIsMeaning : Type 0
 VerdictIsMeaning = (table store : List ℕ)
