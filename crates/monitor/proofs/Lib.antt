@@ -18,3 +18,4 @@ pub mod EventLaws
 pub mod AcceptedLaws
 pub mod TurnLaws
 pub mod StepLaws
+pub mod Outcomes

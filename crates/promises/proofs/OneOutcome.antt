@@ -3,16 +3,15 @@ use mathlib.Core.Option.{Option, none, some}
 use mathlib.Core.Path.{_≡_, refl, sym, ap, _∙_}
 use Rattle.rules.specs.Refusals.{Refused}
 use Rattle.rules.proofs.Outcomes.{refusalOf, refusal-back, check-one-outcome}
-use Rattle.monitor.specs.declared.answer.Answer.{Answer}
-use Rattle.monitor.specs.declared.answer.Answer.the-variants as Answer
 use Rattle.monitor.specs.declared.answer.Judged.{Judged}
 use Rattle.monitor.specs.declared.answer.StartAnswer.{StartAnswer}
 use Rattle.monitor.specs.declared.answer.StartAnswer.the-variants as StartAnswer
 use Rattle.monitor.specs.declared.answer.Started.{Started}
 use Rattle.monitor.specs.declared.answer.Timed.{Timed}
 use Rattle.monitor.specs.declared.answer.Timed.the-variants as Timed
+use Rattle.monitor.proofs.Outcomes.{answerOf, answer-back}
 use Rattle.monitor.specs.Start.{Beginning, startRefusal, saidStart}
-use Rattle.monitor.specs.Step.{Reply, verdict, refusal, said, Outcome, saidStep, TimeReply, at, notAt, saidTime}
+use Rattle.monitor.specs.Step.{Outcome, saidStep, TimeReply, at, notAt, saidTime}
 use Rattle.promises.specs.OneOutcome.{AtMostOne, With, OneOutcome}
 
 one-value : {A : Type 0} {x : A} → AtMostOne (λ (r : A). r ≡ x)
@@ -21,14 +20,6 @@ one-value p q e e′ = e ∙ sym e′
 -- What can be got back from what is said of it is said of one only.
 one-said : {A B : Type 0} {x : B} (say : A → B) (back : B → A) → ((a : A) → back (say a) ≡ a) → AtMostOne (λ (a : A). say a ≡ x)
 one-said say back returns p q e e′ = sym (returns p) ∙ ap back (e ∙ sym e′) ∙ returns q
-
-abbrev answerOf : Reply → Answer
-answerOf (verdict holds) = Answer.Verdict holds
-answerOf (refusal fault) = Answer.Refused (refusalOf fault)
-
-answer-back : (answer : Answer) → answerOf (said answer) ≡ answer
-answer-back (Answer.Verdict holds) = refl
-answer-back (Answer.Refused fault) = ap Answer.Refused (refusal-back fault)
 
 abbrev judgedOf : Outcome → With Judged
 judgedOf o = record { result = record { answer = answerOf (o .reply); «record» = o .left }; store = o .store }
