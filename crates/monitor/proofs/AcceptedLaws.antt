@@ -100,8 +100,8 @@ module _ (table store : List ℕ) (found : Kept.Record) (time : ℕ) (met : Acce
         (wordOf (found .time +End endOf (numbers .b))) (lengthOf (numbers .a) (endOf (numbers .b)))
     unfolding soundRow?
     stretch-sound =
-        stretch-told (stretchAt table store row) (heldAt found row) (found .time) (found .time + numbers .a) (wordOf (found .time +End endOf (numbers .b)))
-        (lengthOf (numbers .a) (endOf (numbers .b)))
+        stretch-told (stretchAt table store row) (heldAt found row) (found .time) (found .time + numbers .a)
+        (wordOf (found .time +End endOf (numbers .b))) (lengthOf (numbers .a) (endOf (numbers .b)))
         (reach-word (found .time) (numbers .b) (omega (arith, met .early, met .risen)) (limit-fits (numbers .a) (numbers .b) range))
         .sound
         (subst T (sym (every-at (rowsOf table) row (soundRow? table store found) lower (sound-parts table store found (met .sound) .1))) tt)
@@ -125,7 +125,8 @@ module _ (table store : List ℕ) (found : Kept.Record) (time : ℕ) (met : Acce
         )
 
 -- The spans of a row after the event have room, whatever the truths of the lower rows.
-module _ (m : Moment) (met : Accepted (m .table) (m .store) (m .found) (m .time)) (row : ℕ) (lower : row < rowsOf (m .table)) (truths : List Bool) where
+module _ (m : Moment) (met : Accepted (m .table) (m .store) (m .found) (m .time)) (row : ℕ) (lower : row < rowsOf (m .table))
+    (truths : List Bool) where
   abbrev N : Numbers
   N = numbersAt (m .table) row
 
@@ -134,7 +135,8 @@ module _ (m : Moment) (met : Accepted (m .table) (m .store) (m .found) (m .time)
   enough-by (plain says) size = omega arith
   enough-by (stretch keep feed) size =
       rw (← size)
-      (room-for (m .table) (m .store) (m .found) (m .time) met row lower (truthAt truths (named keep N)) (truthAt truths (named feed N)) (omega arith))
+      (room-for (m .table) (m .store) (m .found) (m .time) met row lower (truthAt truths (named keep N)) (truthAt truths (named feed N))
+      (omega arith))
 
   pub row-enough : 2 * length (spansAfter m row truths) ≤ width N
   unfolding spansAfter

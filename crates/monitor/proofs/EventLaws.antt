@@ -1,5 +1,5 @@
--- What an event reads of the store, and what it leaves there. A row's spans and truth depend on its own stretch only. Where the spans of each row have
--- room in its stretch, the store is as long as it was, and the words past the rows' stretches are as found.
+-- What an event reads of the store, and what it leaves there. A row's spans and truth depend on its own stretch only. Where the spans of each row
+-- have room in its stretch, the store is as long as it was, and the words past the rows' stretches are as found.
 use mathlib.Core.Bool.{Bool}
 use mathlib.Core.List.{List}
 use mathlib.Core.Path.{_≡_, refl}
@@ -32,11 +32,13 @@ module _ (table store other : List ℕ) (found : Record) (time mask : ℕ) where
   abbrev there : Moment
   there = moment table other found time mask
 
-  spans-by-same : (truths : List Bool) (S : List Span) (row : Numbers) (rule : Rule) → spansBy there truths S row rule ≡ spansBy here truths S row rule
+  spans-by-same : (truths : List Bool) (S : List Span) (row : Numbers) (rule : Rule)
+      → spansBy there truths S row rule ≡ spansBy here truths S row rule
   spans-by-same truths S row (plain says) = refl
   spans-by-same truths S row (stretch keep feed) = refl
 
-  truth-by-same : (truths : List Bool) (S : List Span) (row : Numbers) (rule : Rule) → truthBy there truths S row rule ≡ truthBy here truths S row rule
+  truth-by-same : (truths : List Bool) (S : List Span) (row : Numbers) (rule : Rule)
+      → truthBy there truths S row rule ≡ truthBy here truths S row rule
   truth-by-same truths S row (plain truth) = refl
   truth-by-same truths S row (plain bit) = refl
   truth-by-same truths S row (plain negation) = refl

@@ -85,7 +85,8 @@ module _ (table store : List ℕ) (found : Record) (time mask : ℕ) (met : Acce
         row-turn =
             record {
               truths-are = rw (add-one, turn .truth, truth-same table store current found time mask n truths same, done .truths-are);
-              counts-are = rw (add-one, turn .count, spans-same table store current found time mask n truths same, done .counts-are, done .truths-are);
+              counts-are =
+                  rw (add-one, turn .count, spans-same table store current found time mask n truths same, done .counts-are, done .truths-are);
               store-is =
                   turn .written
                   ∙ rw (

@@ -1,5 +1,5 @@
--- One call, where the invariant holds. A kept call is accepted and the invariant holds of the longer history; any other is refused, 6 over the limit and
--- else 5, and changes nothing.
+-- One call, where the invariant holds. A kept call is accepted and the invariant holds of the longer history; any other is refused, 6 over the limit
+-- and else 5, and changes nothing.
 use mathlib.Core.Bool.{Bool, cond}
 use mathlib.Core.List.{List, _∷_}
 use mathlib.Core.Logic.{_⊎_, inl, inr}

@@ -1,5 +1,5 @@
--- Demand 3, "No smaller figure serves": once p with the limits a and b, on a store of exactly the need, and a pulse of p whenever the former's reach has
--- just ended and a gap follows, as in `filling` of the meaning.
+-- Demand 3, "No smaller figure serves": once p with the limits a and b, on a store of exactly the need, and a pulse of p whenever the former's reach
+-- has just ended and a gap follows, as in `filling` of the meaning.
 use mathlib.Core.List.{List, [], _∷_, _++_}
 use mathlib.Core.Logic.{inl}
 use mathlib.Core.Path.{_≡_, refl, ap, _∙_}

@@ -1,5 +1,6 @@
--- Line times are true times. By induction over the good lines, from any state where the stream's invariant holds with the last true time as its clock: the
--- time of a frame is its true time, so it is kept, and the invariant holds after it with this time. A frame that is refused leaves all as it was.
+-- Line times are true times. By induction over the good lines, from any state where the stream's invariant holds with the last true time as its
+-- clock: the time of a frame is its true time, so it is kept, and the invariant holds after it with this time. A frame that is refused leaves all as
+-- it was.
 use mathlib.Core.List.{List, [], _∷_, map}
 use mathlib.Core.Path.{_≡_, refl, sym, ap, subst}
 use Prim.Native.Nat.{ℕ, _-_, _≤_, _<_}
@@ -84,7 +85,8 @@ module _ (table : List ℕ) where
       (h : History) (last : ℕ) (s : State)
       → Invariant table h last s
       → Close last (acceptedTimes (replies table s (framesOf lines)) times)
-      → acceptedTimes (replies table s (framesOf lines)) (recordTimes table s (framesOf lines)) ≡ acceptedTimes (replies table s (framesOf lines)) times
+      → acceptedTimes (replies table s (framesOf lines)) (recordTimes table s (framesOf lines))
+      ≡ acceptedTimes (replies table s (framesOf lines)) times
 
   line-more : (given : List ℕ) (lines : List (List ℕ)) (time : ℕ) (times : List ℕ)
       → counterIn given ≡ counterOf time

@@ -44,7 +44,8 @@ module _ (table : List ℕ) (row : ℕ) (keep feed : Source) where
       in
       (λ yes. means .1 (says .0 yes), λ inside. says .1 (means .0 inside))
 
-  module _ (h : History) (s : State) (inv : Invariant table h (lastTime h) s) (known : row < rowsOf table) (since : ruleOf (numbersAt table row) ≡ stretch keep feed) where
+  module _ (h : History) (s : State) (inv : Invariant table h (lastTime h) s) (known : row < rowsOf table)
+      (since : ruleOf (numbersAt table row) ≡ stretch keep feed) where
     since-made : formulaOf table row ≡ sinceFormula
     since-made = passed-formula table (rowsOf table) (needOf table) row (passes inv) known ∙ rw since
 

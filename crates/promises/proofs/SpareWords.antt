@@ -1,5 +1,5 @@
--- A call and a start look only at the words of the need. Row by row: each stretch lies within the need, so the spans found are the same, and with them
--- the test of soundness and what the event leaves.
+-- A call and a start look only at the words of the need. Row by row: each stretch lies within the need, so the spans found are the same, and with
+-- them the test of soundness and what the event leaves.
 use mathlib.Core.Bool.{Bool}
 use mathlib.Core.List.{List}
 use mathlib.Core.Logic.{⊎-elim}
@@ -78,6 +78,9 @@ module _ (setup : Setup) (store other : List ℕ) (found : Record) (c : Call) (a
   same-refusal = rw (same-ready (setup .table) store other alike, same-sound (setup .table) store other alike found)
 
   -- The call at the one store and at the other.
+  abbrev time : ℕ
+  time = timeOf (found .time) c
+
   abbrev m : Moment
   m = momentOf setup store found c
 
@@ -86,11 +89,11 @@ module _ (setup : Setup) (store other : List ℕ) (found : Record) (c : Call) (a
 
   same-spans : (row : ℕ) (truths : List Bool) → row < rowsOf (setup .table) → spansAfter m row truths ≡ spansAfter m′ row truths
   same-spans row truths lower =
-      spans-same (setup .table) other store found (timeOf (found .time) c) (maskOf c) row truths (same-stretch (setup .table) store other alike row lower)
+      spans-same (setup .table) other store found time (maskOf c) row truths (same-stretch (setup .table) store other alike row lower)
 
   same-truth : (row : ℕ) (truths : List Bool) → row < rowsOf (setup .table) → truthOf m row truths ≡ truthOf m′ row truths
   same-truth row truths lower =
-      truth-same (setup .table) other store found (timeOf (found .time) c) (maskOf c) row truths (same-stretch (setup .table) store other alike row lower)
+      truth-same (setup .table) other store found time (maskOf c) row truths (same-stretch (setup .table) store other alike row lower)
 
   same-truths : (n : ℕ) → n ≤ rowsOf (setup .table) → truthsAfter m n ≡ truthsAfter m′ n
   unfolding truthsAfter

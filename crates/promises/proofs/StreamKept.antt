@@ -16,5 +16,8 @@ unfolding kept after
 calls-kept table h s [] inv = inv
 calls-kept table h s (c ∷ calls) inv = calls-kept table _ _ calls (next-kept table h s inv c _ refl)
 
-pub stream-kept : (table store : List ℕ) → Starts table store → (calls : List Call) → Invariant table (history calls) (clock calls) (state table store calls)
+pub stream-kept : (table store : List ℕ)
+    → Starts table store
+    → (calls : List Call)
+    → Invariant table (history calls) (clock calls) (state table store calls)
 stream-kept table store starts calls = calls-kept table [] (started table store) calls (start-right table store starts)

@@ -1,5 +1,5 @@
--- The test of a row's stretch tells document 01's conditions on it, in both directions, where table and store passed before it. A row that is no since
--- row has an empty stretch, which is right.
+-- The test of a row's stretch tells document 01's conditions on it, in both directions, where table and store passed before it. A row that is no
+-- since row has an empty stretch, which is right.
 use mathlib.Core.Bool.{false}
 use mathlib.Core.List.{List, []}
 use mathlib.Core.Logic.{_⊎_, inl, inr, ⊎-elim}

@@ -1,5 +1,5 @@
--- Demand 1: "a refused call changes nothing ..: the stream goes on as if it hadn't been made." For every list of calls, each with any table, any length
--- of the store, any time and mask or counter, from any record and any words.
+-- Demand 1: "a refused call changes nothing ..: the stream goes on as if it hadn't been made." For every list of calls, each with any table, any
+-- length of the store, any time and mask or counter, from any record and any words.
 use mathlib.Core.Bool.{Bool, true, false}
 use mathlib.Core.List.{List, _++_}
 use Prim.Native.Nat.{ℕ}

@@ -1,5 +1,5 @@
--- Demand 2, its second sentence: "Where only frames move the time, line times equal true times if these never fall, the first is below 65,536 ms and no
--- gap between accepted frames exceeds 65,535 ms." Over the frames of good lines, judged from a good start.
+-- Demand 2, its second sentence: "Where only frames move the time, line times equal true times if these never fall, the first is below 65,536 ms and
+-- no gap between accepted frames exceeds 65,535 ms." Over the frames of good lines, judged from a good start.
 use mathlib.Core.Bool.{cond}
 use mathlib.Core.List.{List, [], _∷_, map}
 use mathlib.Core.Path.{_≡_}

@@ -1,5 +1,5 @@
--- Demand 3, its need: "The store needed follows from the table alone: for each since row with limits a to b, floor(b/(b-a+2))+1 spans, one if b has no
--- end."
+-- Demand 3, its need: "The store needed follows from the table alone: for each since row with limits a to b, floor(b/(b-a+2))+1 spans, one if b has
+-- no end."
 use mathlib.Core.Bool.{false}
 use mathlib.Core.List.{List}
 use mathlib.Core.Path.{_≡_}

@@ -78,7 +78,8 @@ pub data Past (text : List ℕ) (place next : ℕ) : Type 0 where
   first : (feed : ℕ) → place ≤ feed → byteAt text feed ≡ lineFeed → NoLineFeed text place feed → next ≡ feed + 1 → Past text place next
   none : NoLineFeed text place (length text) → next ≡ length text → Past text place next
 
--- "A place at or past the end answers 'end', place unchanged. After a good line the place moves 15. After 8 or 9 it moves past the first line feed .."
+-- "A place at or past the end answers 'end', place unchanged. After a good line the place moves 15. After 8 or 9 it moves past the first line
+-- feed .."
 pub record PlaceMoves (text : List ℕ) (place : ℕ) : Type 0 where
   pub ended : readFrame text place .said ≡ end → readFrame text place .next ≡ place
   pub good : (given : List ℕ) → readFrame text place .said ≡ numbers given → readFrame text place .next ≡ place + frameBytes

@@ -53,7 +53,7 @@ pub data CallRefused (setup : Setup) (store : List ℕ) (found : Kept.Record) (c
       → timeOf (found .time) c < found .time
       → CallRefused setup store found c (refused Earlier)
 
--- Refused with a number and values if and only if the table of refusals says so: for the check, a start, an event or a frame, and the time of a frame.
+-- Refused with a number and values if and only if the table of refusals says so: for the check, a start, an event or a frame, the time of a frame.
 pub record RefusedExactly : Type 0 where
   pub check : (table : List ℕ) (fault : Refused) → (checkOf table ≡ refusedBy fault) ↔ TableRefused table fault
   pub start : (table store : List ℕ) (fault : Refused) → (startOf table store .refusal ≡ some fault) ↔ StartRefused table (length store) fault

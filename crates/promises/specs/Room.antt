@@ -1,5 +1,5 @@
--- Demand 3, its room: "With it no event is refused for room, however long the stream." "No smaller figure serves: for any allowed a and b some table and
--- stream fill every span."
+-- Demand 3, its room: "With it no event is refused for room, however long the stream." "No smaller figure serves: for any allowed a and b some table
+-- and stream fill every span."
 use mathlib.Core.List.{List, map}
 use mathlib.Core.Path.{_≡_}
 use Prim.Native.Nat.{ℕ, _≤_, _<_}
@@ -40,7 +40,8 @@ pulsesAt times = map (λ (time : ℕ). event time 1) times
 abbrev pub AllKept : List Call → Type 0
 AllKept calls = length (history calls) ≡ length calls
 
--- A table with a since row of exactly these limits, and a stream, all kept, after which the row's count is the figure: on any store of exactly the need.
+-- A table with a since row of exactly these limits, and a stream, all kept, after which the row's count is the figure, whatever the words of a store
+-- of exactly the need.
 pub record Filled (a b : ℕ) : Type 0 where
   pub table : List ℕ
   pub row : ℕ

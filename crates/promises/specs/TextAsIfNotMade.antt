@@ -1,6 +1,6 @@
--- Demand 1 for text: "a refused call changes nothing ..: the stream goes on as if it hadn't been made." A refused line (8, 9), and a line whose frame is
--- refused, change nothing but the place. For every list of readings, each of any text at any place, its frame judged with any table and any length of the
--- store, from any record and any words.
+-- Demand 1 for text: "a refused call changes nothing ..: the stream goes on as if it hadn't been made." A refused line (8, 9), and a line whose frame
+-- is refused, change nothing but the place. For every list of readings, each of any text at any place, its frame judged with any table and any length
+-- of the store, from any record and any words.
 use mathlib.Core.Bool.{Bool, true, false}
 use mathlib.Core.List.{List}
 use mathlib.Core.Path.{_≡_}

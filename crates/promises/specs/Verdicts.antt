@@ -41,8 +41,8 @@ TruthsAreMeaning = (table store : List ℕ) → Starts table store → (calls : 
 abbrev pub judgedFormula : List ℕ → Formula
 judgedFormula table = formulaOf table (rowsOf table - 1)
 
--- The verdict is yes exactly when the formula judged holds: over the kept events, and in the words of document 01's table, at the event whose number is
--- that of the events kept before, counted from 0.
+-- The verdict is yes exactly when the formula judged holds: over the kept events, and in the words of document 01's table, at the event whose number
+-- is that of the events kept before, counted from 0.
 pub record Meant (table store : List ℕ) (calls : List Call) (c : Call) (holds : Bool) : Type 0 where
   pub holding : T holds ↔ Holds (judgedFormula table) (longer calls c)
   pub by-number : T holds ↔ HoldsAt (numbered (longer calls c)) (judgedFormula table) (length (history calls))

@@ -27,7 +27,8 @@ abbrev pub runningAfter : List ℕ → List Call → Running
 runningAfter table calls =
     record { table = table; found = state table emptyStore calls .found; store = state table emptyStore calls .store }
 
-leaves-more : (table : List ℕ) (calls : List Call) (said : Said) → frameLeaves (runningAfter table calls) said ≡ runningAfter table (callsAfter calls said)
+leaves-more : (table : List ℕ) (calls : List Call) (said : Said)
+    → frameLeaves (runningAfter table calls) said ≡ runningAfter table (callsAfter calls said)
 leaves-more table calls end = refl
 leaves-more table calls (numbers given) = rw (one-more table emptyStore calls (frameOf given) .left)
 leaves-more table calls (refusal fault) = refl
@@ -39,17 +40,23 @@ frame-meant table calls c starts =
     record {
       kept = λ keeps.
           let told = answered .judged keeps in
-          let time : outcome table emptyStore calls c .left .time ≡ timeOf (clock calls) c = call-kept (stream-kept table emptyStore starts calls) c keeps .time in
+          let time : outcome table emptyStore calls c .left .time ≡ timeOf (clock calls) c =
+          call-kept (stream-kept table emptyStore starts calls) c keeps .time
+          in
           (told .0, rw (told .1, time), verdict-is-meaning table emptyStore starts calls c (told .0) (told .1) .holding);
       late = λ over. ap (replyOf (outcome table emptyStore calls c .left .time)) (answered .late over);
     }
 
-line-meant : (table : List ℕ) (calls : List Call) (said : Said) → Starts table emptyStore → LineMeant table calls said (frameReply (runningAfter table calls) said)
+line-meant : (table : List ℕ) (calls : List Call) (said : Said)
+    → Starts table emptyStore
+    → LineMeant table calls said (frameReply (runningAfter table calls) said)
 line-meant table calls end starts = refl
 line-meant table calls (numbers given) starts = frame-meant table calls (frameOf given) starts
 line-meant table calls (refusal fault) starts = refl
 
-frames-meant : (table : List ℕ) (calls : List Call) (lines : List (List ℕ)) → Starts table emptyStore → Meant table calls lines (framesFrom (runningAfter table calls) lines)
+frames-meant : (table : List ℕ) (calls : List Call) (lines : List (List ℕ))
+    → Starts table emptyStore
+    → Meant table calls lines (framesFrom (runningAfter table calls) lines)
 unfolding Meant framesFrom
 frames-meant table calls [] starts = refl
 frames-meant table calls (line ∷ lines) starts =

@@ -1,4 +1,4 @@
--- Demand 2, its second sentence, of the program's text: "line times equal true times ..". The 12 digits that are written for a frame are its true time.
+-- Demand 2, its second sentence, of the program's text: "line times equal true times ..", the 12 digits that are written for each frame.
 use mathlib.Core.List.{List, [], _∷_, _++_, map}
 use mathlib.Core.Path.{_≡_}
 use Prim.Native.Nat.{ℕ, _≤_}
@@ -40,7 +40,8 @@ abbrev pub Shows : (text table : List ℕ) → List (List ℕ) → List ℕ → 
 Shows text table lines times = transcript text ≡ needLine (needOf table) ++ written (readLines lines) (frameReplies table lines) times
 
 -- Where all true times are as the demand says, and within the limit, each good line's reply is a verdict with its true time.
--- Where those of the accepted lines are as the demand says, and the others any at all, each verdict has its line's true time; the others are refusals.
+-- Where those of the accepted lines are as the demand says, and the others any at all, each verdict has its line's true time; the others are
+-- refusals.
 pub record TextTimed (text table : List ℕ) (lines : List (List ℕ)) (times : List ℕ) : Type 0 where
   pub all : TrueTimes times
       → Every (λ (time : ℕ). time ≤ timeLimit) times
