@@ -1,26 +1,18 @@
 -- Any two outcomes that the contract of a public function allows are the same: the answer or the record given, the record where it stands, and every word and code that was lent.
 use mathlib.Core.List.{List}
-use mathlib.Core.Path.{_≡_, refl, sym, ap, _∙_}
+use mathlib.Core.Path.{_≡_, sym, ap, _∙_}
 use Prim.Native.Nat.{ℕ}
-use Rattle.rules.proofs.Outcomes.{one-value, refusalOf, refusal-back}
+use Rattle.rules.proofs.Outcomes.{one-value}
 use Rattle.monitor.specs.declared.record.Record.{Record}
 use Rattle.monitor.specs.declared.answer.Answer.{Answer}
-use Rattle.monitor.specs.declared.answer.Answer.the-variants.{Verdict, Refused}
 use Rattle.monitor.specs.declared.answer.Judged.{Judged}
-use Rattle.monitor.specs.Step.{Setup, Reply, verdict, refusal, Outcome, said, stepOf, saidStep}
+use Rattle.monitor.specs.Step.{Setup, Outcome, said, stepOf, saidStep}
+use Rattle.monitor.proofs.Outcomes.{answerOf, answer-back}
 use Rattle.in_place.specs.Call.{callOf, saidIn}
 use Rattle.in_place.specs.Code.{codeOf}
 use Rattle.in_place.specs.Run.{Ran, ran}
 use Rattle.in_place.specs.declared.call.Call.{Call}
 
--- The answer that says so.
-abbrev answerOf : Reply → Answer
-answerOf (verdict holds) = Verdict holds
-answerOf (refusal fault) = Refused (refusalOf fault)
-
-answer-back : (a : Answer) → answerOf (said a) ≡ a
-answer-back (Verdict holds) = refl
-answer-back (Refused fault) = ap Refused (refusal-back fault)
 
 -- `in_place::kept::call_in`: the answer, the record and the store.
 pub one-call-in : (setup : Setup) (store : List ℕ) (found : Record) (call : Call) (p q : Answer) (kept kept′ : Record) (words words′ : List ℕ)

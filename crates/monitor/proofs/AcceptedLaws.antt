@@ -8,7 +8,7 @@ use mathlib.Core.Path.{_≡_, refl, sym, subst}
 use Prim.Native.Nat.{ℕ, _+_, _*_, _^_, _≤_, _<_}
 use native.Mathlib.Omega.{arith}
 use lib.Dec.{T, leb, eqb}
-use lib.ListN.{length, length-take, length-drop}
+use lib.ListN.{length}
 use borrow.Author.Tests.{leb-true}
 use Rattle.meaning.specs.Interval.{upTo, noEnd, noEndNumber, endOf, _≤End_, _+End_}
 use Rattle.meaning.specs.Spans.{reach, update}
@@ -35,6 +35,7 @@ use Rattle.monitor.specs.Ready.{readyOf, refusalIn}
 use Rattle.monitor.specs.Event.{Moment, spansBy, spansAfter}
 use Rattle.monitor.specs.Step.{Setup, Call, timeOf, unless, refusalOf}
 use Rattle.monitor.proofs.ReadyLaws.{Ready, ready-none}
+use Rattle.monitor.proofs.EventLaws.{length-stretch}
 use Rattle.monitor.proofs.ReachLaws.{reach-storable}
 use Rattle.monitor.proofs.SoundnessLaws.{every-at, sound-parts}
 
@@ -54,20 +55,20 @@ unless-none true refusal h = refl
 unless-none false refusal h = let z : _≡_ {A = ℕ} 0 1 = cc in absurd (omega arith)
 
 pub accepted : (setup : Setup) (store : List ℕ) (found : Kept.Record) (call : Call) → refusalOf setup store found call ≡ none
-    → Accepted (setup .table) store found (timeOf found call)
+    → Accepted (setup .table) store found (timeOf (found .time) call)
 unfolding refusalOf
 accepted setup store found call h =
     let sound : Option Refused = unless (sound? (setup .table) store found) Record in
-    let early : Option Refused = unless (leb (timeOf found call) timeLimit) Late in
-    let risen : Option Refused = unless (leb (found .time) (timeOf found call)) Earlier in
+    let early : Option Refused = unless (leb (timeOf (found .time) call) timeLimit) Late in
+    let risen : Option Refused = unless (leb (found .time) (timeOf (found .time) call)) Earlier in
     let first = or-none (refusalIn (readyOf (setup .table) (length store))) (sound orElse early orElse risen) h in
     let second = or-none sound (early orElse risen) (first .1) in
     let third = or-none early risen (second .1) in
     record {
       ready = ready-none (setup .table) (length store) (first .0);
       sound = unless-none (sound? (setup .table) store found) Record (second .0);
-      early = leb-true _ _ (unless-none (leb (timeOf found call) timeLimit) Late (third .0));
-      risen = leb-true _ _ (unless-none (leb (found .time) (timeOf found call)) Earlier (third .1));
+      early = leb-true _ _ (unless-none (leb (timeOf (found .time) call) timeLimit) Late (third .0));
+      risen = leb-true _ _ (unless-none (leb (found .time) (timeOf (found .time) call)) Earlier (third .1));
     }
 
 -- Limits in range: b fits a number of the table, and a is not past b.
@@ -92,12 +93,6 @@ module _ (table store : List ℕ) (found : Kept.Record) (time : ℕ) (met : Acce
 
     pub row-inside : offset table row + width numbers ≤ length store
     row-inside = omega (arith, stretch-before table row (rowsOf table) lower, met .ready .room)
-
-    pub length-stretch : length (stretchAt table store row) ≡ width numbers
-    unfolding stretchAt
-    length-stretch =
-        let inside = row-inside in
-        simp (length-take, length-drop) (omega arith)
 
     storable : Storable (found .time +End endOf (numbers .b))
     storable =
@@ -126,7 +121,8 @@ module _ (table store : List ℕ) (found : Kept.Record) (time : ℕ) (met : Acce
         (heldAt found row) storable stretch-sound keep feed (order (numbers .a) (numbers .b) range) (met .risen) (met .risen) size
 
 -- The spans of a row after the event have room, whatever the truths of the lower rows.
-module _ (m : Moment) (met : Accepted (m .table) (m .store) (m .found) (m .time)) (row : ℕ) (lower : row < rowsOf (m .table)) (truths : List Bool) where
+module _ (m : Moment) (met : Accepted (m .table) (m .store) (m .found) (m .time)) (row : ℕ) (lower : row < rowsOf (m .table))
+    (truths : List Bool) where
   abbrev N : Numbers
   N = numbersAt (m .table) row
 
@@ -135,8 +131,9 @@ module _ (m : Moment) (met : Accepted (m .table) (m .store) (m .found) (m .time)
   enough-by (plain says) size = omega arith
   enough-by (stretch keep feed) size =
       rw (← size)
-      (room-for (m .table) (m .store) (m .found) (m .time) met row lower (truthAt truths (named keep N)) (truthAt truths (named feed N)) (omega arith))
+      (room-for (m .table) (m .store) (m .found) (m .time) met row lower (truthAt truths (named keep N)) (truthAt truths (named feed N))
+      (omega arith))
 
   pub row-enough : 2 * length (spansAfter m row truths) ≤ width N
   unfolding spansAfter
-  row-enough = enough-by (ruleOf N) (length-stretch (m .table) (m .store) (m .found) (m .time) met row lower)
+  row-enough = enough-by (ruleOf N) (length-stretch (m .table) (m .store) row (row-inside (m .table) (m .store) (m .found) (m .time) met row lower))

@@ -16,7 +16,7 @@ use Rattle.monitor.specs.declared.record.Record as Kept
 use Rattle.monitor.specs.Record.{timeLimit, truthAt}
 use Rattle.monitor.specs.Soundness.{sound?}
 use Rattle.monitor.specs.Ready.{readyOf, refusalIn}
-use Rattle.monitor.specs.Step.{Setup, Call, event, frame, timeOf, unless, refusalOf, verdict, refusal, stepOf}
+use Rattle.monitor.specs.Step.{Setup, setupOf, Call, event, frame, timeOf, unless, refusalOf, verdict, refusal, stepOf}
 use Rattle.monitor.specs.Event.{recordAfter}
 use Rattle.monitor.specs.Core.{withSound, fitOf, moment, AfterRows}
 use Rattle.monitor.proofs.ReadyLaws.{ready-gives}
@@ -64,16 +64,16 @@ fit-gives table store found rows need h =
 
 -- Then 6, then 5, then none.
 module _ (setup : Setup) (store : List ℕ) (found : Kept.Record) (call : Call) (ready : refusalIn (readyOf (setup .table) (length store)) ≡ none) (sound : sound? (setup .table) store found ≡ true) where
-  pub late : timeLimit < timeOf found call → refusalOf setup store found call ≡ some (refused Late)
+  pub late : timeLimit < timeOf (found .time) call → refusalOf setup store found call ≡ some (refused Late)
   unfolding refusalOf
   late over = rw (ready, sound, lt-leb _ _ over)
 
-  module _ (early : timeOf found call ≤ timeLimit) where
-    pub earlier : timeOf found call < found .time → refusalOf setup store found call ≡ some (refused Earlier)
+  module _ (early : timeOf (found .time) call ≤ timeLimit) where
+    pub earlier : timeOf (found .time) call < found .time → refusalOf setup store found call ≡ some (refused Earlier)
     unfolding refusalOf
     earlier fallen = rw (ready, sound, le-leb _ _ early, lt-leb _ _ fallen)
 
-    pub unrefused : found .time ≤ timeOf found call → refusalOf setup store found call ≡ none
+    pub unrefused : found .time ≤ timeOf (found .time) call → refusalOf setup store found call ≡ none
     unfolding refusalOf
     unrefused risen = rw (ready, sound, le-leb _ _ early, le-leb _ _ risen)
 
@@ -85,7 +85,7 @@ frame-is-event setup store found counter mask = refl
 
 -- An accepted event leaves what the rows left, and its verdict is the last row's truth.
 pub step-accepted : (table store : List ℕ) (found : Kept.Record) (time mask rows : ℕ) (truths : List Bool) (counts after : List ℕ)
-    → refusalOf (record { table = table }) store found (event time mask) ≡ none
+    → refusalOf (setupOf table) store found (event time mask) ≡ none
     → rows ≡ rowsOf table
     → AfterRows (moment table store found time mask) rows truths counts after
     → record {
@@ -93,7 +93,7 @@ pub step-accepted : (table store : List ℕ) (found : Kept.Record) (time mask ro
       left = record { seen = true; time = time; rows = found .rows; truths = truths; counts = counts };
       store = after;
     }
-    ≡ stepOf (record { table = table }) store found (event time mask)
+    ≡ stepOf (setupOf table) store found (event time mask)
 unfolding stepOf recordAfter
 step-accepted table store found time mask rows truths counts after h counted done =
     rw (h, done .truths-are, done .counts-are, done .store-is, counted)

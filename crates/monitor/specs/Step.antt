@@ -25,14 +25,18 @@ use Rattle.monitor.specs.Event.{Moment, storeAfter, recordAfter}
 pub record Setup : Type 0 where
   pub table : List ℕ
 
+abbrev pub setupOf : List ℕ → Setup
+setupOf table = record { table = table }
+
 -- An event has its time; a frame has a counter, and the time that this shows since the last event.
 pub data Call : Type 0 where
   event : (time mask : ℕ) → Call
   frame : (counter mask : ℕ) → Call
 
-abbrev pub timeOf : Kept.Record → Call → ℕ
-timeOf found (event time mask) = time
-timeOf found (frame counter mask) = frameTime (found .time) counter
+-- Its time, where the last event was at `last` (0 before any).
+abbrev pub timeOf : ℕ → Call → ℕ
+timeOf last (event time mask) = time
+timeOf last (frame counter mask) = frameTime last counter
 
 abbrev pub maskOf : Call → ℕ
 maskOf (event time mask) = mask
@@ -48,18 +52,15 @@ unfoldable pub refusalOf : Setup → List ℕ → Kept.Record → Call → Optio
 refusalOf setup store found call =
     refusalIn (readyOf (setup .table) (length store))
     orElse unless (sound? (setup .table) store found) Record
-    orElse unless (leb (timeOf found call) timeLimit) Late
-    orElse unless (leb (found .time) (timeOf found call)) Earlier
+    orElse unless (leb (timeOf (found .time) call) timeLimit) Late
+    orElse unless (leb (found .time) (timeOf (found .time) call)) Earlier
 
 -- The call as a moment, for the one-event rules.
 abbrev pub momentOf : Setup → List ℕ → Kept.Record → Call → Moment
 momentOf setup store found call =
-    record { table = setup .table; store = store; found = found; time = timeOf found call; mask = maskOf call }
+    record { table = setup .table; store = store; found = found; time = timeOf (found .time) call; mask = maskOf call }
 
--- The record and the store after an accepted call.
-abbrev pub afterOf : Moment → Kept.Record
-afterOf m = recordAfter m
-
+-- The store after an accepted call; the record is `recordAfter`.
 abbrev pub storeOf : Moment → List ℕ
 storeOf m = storeAfter m (rowsOf (m .table))
 
@@ -81,7 +82,7 @@ pub record Outcome : Type 0 where
 abbrev pub outcome : Setup → List ℕ → Kept.Record → Moment → Option Refused → Outcome
 outcome setup store found m (some fault) = record { reply = refusal fault; left = found; store = store }
 outcome setup store found m none =
-    record { reply = verdict (verdictOf setup (afterOf m .truths)); left = afterOf m; store = storeOf m }
+    record { reply = verdict (verdictOf setup (recordAfter m .truths)); left = recordAfter m; store = storeOf m }
 
 unfoldable pub stepOf : Setup → List ℕ → Kept.Record → Call → Outcome
 stepOf setup store found call =

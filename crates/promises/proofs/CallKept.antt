@@ -1,46 +1,34 @@
--- One call, where the invariant holds. A kept call is accepted and the invariant holds of the longer history; any other is refused, 6 over the limit and
--- else 5, and changes nothing.
-use mathlib.Core.Bool.{Bool, true, false, cond, _&&_}
+-- One call, where the invariant holds. A kept call is accepted and the invariant holds of the longer history; any other is refused, 6 over the limit
+-- and else 5, and changes nothing.
+use mathlib.Core.Bool.{Bool, cond}
 use mathlib.Core.List.{List, _∷_}
 use mathlib.Core.Logic.{_⊎_, inl, inr}
 use mathlib.Core.Option.{none}
-use mathlib.Core.Path.{_≡_, refl, ap}
+use mathlib.Core.Path.{_≡_, ap}
 use Prim.Native.Nat.{ℕ, _-_, _≤_, _<_}
 use native.Mathlib.Omega.{arith}
-use lib.Dec.{leb}
-use Rattle.meaning.specs.FrameTime.{frameTime}
 use Rattle.meaning.specs.History.{History, lastTime}
-use Rattle.meaning.proofs.SpansLaws.{by-leb}
 use Rattle.rules.specs.Rows.{rowsOf}
 use Rattle.rules.specs.Refusals.{Refused, refused}
 use Rattle.rules.specs.declared.refusal.Refusal.the-variants.{Earlier, Late}
 use Rattle.monitor.specs.Record.{timeLimit, truthAt}
-use Rattle.monitor.specs.Step.{Call, event, frame, timeOf, maskOf, refusalOf, verdict, refusal, stepOf}
-use Rattle.promises.specs.Stream.{State, setupOf, call, next, callTime, Keeps, keeps?, eventOf}
-use Rattle.promises.specs.Invariant.{Invariant}
+use Rattle.monitor.specs.Step.{setupOf, Call, timeOf, maskOf, refusalOf, verdict, refusal, stepOf}
+use Rattle.promises.specs.Stream.{State, call, next, Keeps, keeps?, eventOf}
+use Rattle.promises.proofs.Invariant.{Invariant}
 use Rattle.promises.specs.Refusing.{six, five}
 use Rattle.promises.proofs.Refusing.{call-passes, refused-exactly, refusal-changes-nothing}
+use Rattle.promises.proofs.StreamLaws.{keeps-cases}
 use Rattle.promises.proofs.EventKept.{event-kept}
 
--- By cases: the call is kept, or its time is over the limit, or it is below the last.
-keeps-cases : (P : Bool → Type 0) (last : ℕ) (c : Call)
-    → (Keeps last c → P true)
-    → (timeLimit < callTime last c → P false)
-    → (callTime last c ≤ timeLimit → callTime last c < last → P false)
-    → P (keeps? last c)
-keeps-cases P last c kept late earlier =
-    by-leb (λ within. P (within && leb last (callTime last c))) (callTime last c) timeLimit
-    (λ within. by-leb P last (callTime last c) (λ risen. kept (record { within = within; risen = risen })) (earlier within))
-    late
+-- A refused call leaves the state.
+pub refused-same : (table : List ℕ) (s : State) (c : Call) {fault : Refused} → call table s c .reply ≡ refusal fault → next table s c ≡ s
+refused-same table s c {fault} refused =
+    let (left, words) = refusal-changes-nothing .call (setupOf table) (s .store) (s .found) c fault refused in rw (left, words)
 
 module _ {table : List ℕ} {h : History} {clock : ℕ} {s : State} (inv : Invariant table h clock s) (c : Call) where
   -- The time of the call is the stream's.
-  time-same : timeOf (s .found) c ≡ callTime clock c
-  time-same = go c
-    where
-      go : (made : Call) → timeOf (s .found) made ≡ callTime clock made
-      go (event time mask) = refl
-      go (frame counter mask) = ap (λ (last : ℕ). frameTime last counter) (inv .time)
+  time-same : timeOf (s .found .time) c ≡ timeOf clock c
+  time-same = ap (λ (last : ℕ). timeOf last c) (inv .time)
 
   accepted : Keeps clock c → refusalOf (setupOf table) (s .store) (s .found) c ≡ none
   accepted keeps =
@@ -52,31 +40,27 @@ module _ {table : List ℕ} {h : History} {clock : ℕ} {s : State} (inv : Invar
         risen = omega (arith, time-same, inv .time, keeps .risen);
       })
 
-  -- What is answered, and that a refused call leaves the state.
+  -- What is answered.
   pub kept-reply : Keeps clock c → call table s c .reply ≡ verdict (truthAt (call table s c .left .truths) (rowsOf table - 1))
   unfolding stepOf
   kept-reply keeps = rw (accepted keeps)
 
-  pub late-reply : timeLimit < callTime clock c → call table s c .reply ≡ refusal (refused Late)
+  pub late-reply : timeLimit < timeOf clock c → call table s c .reply ≡ refusal (refused Late)
   late-reply over =
       refused-exactly .call (setupOf table) (s .store) (s .found) c (refused Late) .1
       (six (inv .ready) (inv .sound) (omega (arith, time-same)))
 
-  pub earlier-reply : callTime clock c ≤ timeLimit → callTime clock c < clock → call table s c .reply ≡ refusal (refused Earlier)
+  pub earlier-reply : timeOf clock c ≤ timeLimit → timeOf clock c < clock → call table s c .reply ≡ refusal (refused Earlier)
   earlier-reply within below =
       refused-exactly .call (setupOf table) (s .store) (s .found) c (refused Earlier) .1
       (five (inv .ready) (inv .sound) (omega (arith, time-same)) (omega (arith, time-same, inv .time)))
 
-  refused-same : {fault : Refused} → call table s c .reply ≡ refusal fault → next table s c ≡ s
-  refused-same {fault} refused =
-      let (left, words) = refusal-changes-nothing .call (setupOf table) (s .store) (s .found) c fault refused in rw (left, words)
-
   -- A kept call keeps the invariant.
-  pub call-kept : Keeps clock c → Invariant table (eventOf clock c ∷ h) (callTime clock c) (next table s c)
+  pub call-kept : Keeps clock c → Invariant table (eventOf clock c ∷ h) (timeOf clock c) (next table s c)
   unfolding stepOf
   call-kept keeps =
       rw (accepted keeps, time-same)
-      (event-kept inv (callTime clock c) (maskOf c) (keeps .risen) (keeps .within))
+      (event-kept inv (timeOf clock c) (maskOf c) (keeps .risen) (keeps .within))
 
   -- By cases on what was answered: a verdict is given to kept calls alone, and no other refusal than 6 and 5.
   not-both : {A : Type 0} {holds : Bool} {fault : Refused} → call table s c .reply ≡ verdict holds → call table s c .reply ≡ refusal fault → A
@@ -110,5 +94,5 @@ next-kept table h s inv c events same =
     (lastTime h)
     c
     (call-kept inv c)
-    (λ over. rw (refused-same inv c (late-reply inv c over)) inv)
-    (λ within below. rw (refused-same inv c (earlier-reply inv c within below)) inv))
+    (λ over. rw (refused-same table s c (late-reply inv c over)) inv)
+    (λ within below. rw (refused-same table s c (earlier-reply inv c within below)) inv))

@@ -1,5 +1,5 @@
--- One kept event keeps the invariant. By induction over the rows: each row's truth tells its formula at the event, from those of the lower rows, and its
--- spans go from the runs before to the runs after.
+-- One kept event keeps the invariant. By induction over the rows: each row's truth tells its formula at the event, from those of the lower rows, and
+-- its spans go from the runs before to the runs after.
 use mathlib.Core.Bool.{Bool, _&&_}
 use mathlib.Core.List.{List, [], _∷_}
 use mathlib.Core.Logic.{⊎-elim}
@@ -26,11 +26,12 @@ use Rattle.rules.proofs.KindsLaws.{PlainNames, Names}
 use Rattle.rules.proofs.PassedLaws.{range-order, passed-formula}
 use Rattle.monitor.specs.Record.{timeLimit, truthAt}
 use Rattle.spans.proofs.CoverLaws.{covered-told}
+use Rattle.monitor.proofs.EventLaws.{Room, length-store}
 use Rattle.monitor.specs.Event.{Moment, spansBy, spansAfter, truthBy, truthOf, truthsAfter, spansNow, storeAfter, recordAfter}
 use Rattle.promises.specs.Stream.{State}
 use Rattle.promises.specs.Spans.{NamedHolds}
-use Rattle.promises.specs.Invariant.{anySeen, Says, Spanned, RowFollows, Invariant}
-use Rattle.promises.proofs.RowsAfter.{Room, truth-set, length-store, row-laid}
+use Rattle.promises.proofs.Invariant.{anySeen, Says, Spanned, RowFollows, Invariant}
+use Rattle.promises.proofs.RowsAfter.{truth-set, row-laid}
 use Rattle.promises.proofs.SoundAfter.{room-after}
 use Rattle.promises.proofs.SoundIsKept.{sound-after, sized-after}
 use Rattle.promises.proofs.InvariantLaws.{passes, spans-found}
@@ -78,7 +79,8 @@ module _ (m : Moment) (h : History) (of : ℕ → Formula) (r : ℕ) (row : Numb
       (lower .seen) (lower .last) (lower .before (row .x) names)
 
 -- An event not before the clock and within the limit, where the invariant holds.
-module _ {table : List ℕ} {h : History} {clock : ℕ} {s : State} (inv : Invariant table h clock s) (time mask : ℕ) (later : clock ≤ time) (within : time ≤ timeLimit) where
+module _ {table : List ℕ} {h : History} {clock : ℕ} {s : State} (inv : Invariant table h clock s) (time mask : ℕ)
+    (later : clock ≤ time) (within : time ≤ timeLimit) where
   abbrev m : Moment
   m = record { table = table; store = s .store; found = s .found; time = time; mask = mask }
 
@@ -134,7 +136,9 @@ module _ {table : List ℕ} {h : History} {clock : ℕ} {s : State} (inv : Invar
         → Tells (truthBy m (truthsAfter m row) after numbers rule) (Holds (formula (formulaOf table) numbers rule) longer)
     truth-by (plain says) after names spanned = plain-told m h (formulaOf table) row numbers (truthsAfter m row) says after lower names
     truth-by (stretch keep feed) after names spanned =
-        let means = runs-tell (formulaOf table (named keep numbers)) (formulaOf table (named feed numbers)) (numbers .a) (endOf (numbers .b)) longer after spanned in
+        let means =
+        runs-tell (formulaOf table (named keep numbers)) (formulaOf table (named feed numbers)) (numbers .a) (endOf (numbers .b)) longer after spanned
+        in
         tells-same (means .0) (means .1) (covered-told time after)
 
     spans-follow : Spanned table row longer time (ruleOf numbers) (spansNow m row)
@@ -165,7 +169,7 @@ module _ {table : List ℕ} {h : History} {clock : ℕ} {s : State} (inv : Invar
   risen = omega (arith, inv .time)
 
   spans-fit : Room m (rowsOf table)
-  spans-fit = room-after m (inv .ready) (inv .sound) risen
+  spans-fit = room-after m (inv .ready) (inv .sound) within risen
 
   abbrev pub stateAfter : State
   stateAfter = record { found = recordAfter m; store = storeAfter m (rowsOf table) }

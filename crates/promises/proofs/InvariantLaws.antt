@@ -10,9 +10,10 @@ use Rattle.rules.proofs.PassedLaws.{InRange, Passed, passed-gives}
 use Rattle.monitor.specs.Record.{timeLimit, spansFound}
 use Rattle.spans.proofs.LayoutLaws.{laid-read}
 use Rattle.promises.specs.Stream.{State}
-use Rattle.promises.specs.Invariant.{Invariant}
+use Rattle.promises.proofs.Invariant.{Invariant}
 use Rattle.promises.proofs.TableRefusals.{table-passes}
-use Rattle.promises.proofs.SpannedLaws.{spanned-sound, spanned-stored}
+use Rattle.promises.proofs.StretchTold.{row-stored}
+use Rattle.promises.proofs.SpannedLaws.{spanned-sound}
 
 module _ {table : List ℕ} {h : History} {clock : ℕ} {s : State} (inv : Invariant table h clock s) where
   pub passes : Passed table (rowsOf table) (needOf table)
@@ -24,5 +25,5 @@ module _ {table : List ℕ} {h : History} {clock : ℕ} {s : State} (inv : Invar
       let within : clock ≤ timeLimit = omega (arith, inv .time, inv .sound .limit) in
       let S = inv .follows row known .spans in
       laid-read (inv .follows row known .laid)
-      (spanned-stored table row h clock within range S
+      (row-stored (numbersAt table row) clock S within range
       (spanned-sound table row h clock (inv .ordered) range (ruleOf (numbersAt table row)) S (inv .follows row known .spanned)))

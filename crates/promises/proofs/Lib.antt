@@ -1,12 +1,16 @@
--- The proofs of what is promised, under the names of specs/, and the laws that they share.
+-- The proofs of what is promised, and the laws that they share.
 pub mod RowsAfter
 pub mod RangeLaws
 pub mod Deciding
+pub mod StreamLaws
+pub mod Invariant
 pub mod TableTold
 pub mod TableRefusals
 pub mod StretchTold
+pub mod Need
 pub mod RecordTold
 pub mod Refusing
+pub mod LeftOut
 pub mod AsIfNotMade
 pub mod Reading
 pub mod TextRead

@@ -1,7 +1,8 @@
--- Line times are true times. By induction over the good lines, from any state where the stream's invariant holds with the last true time as its clock: the
--- time of a frame is its true time, so it is kept, and the invariant holds after it with this time. A frame that is refused leaves all as it was.
+-- Line times are true times. By induction over the good lines, from any state where the stream's invariant holds with the last true time as its
+-- clock: the time of a frame is its true time, so it is kept, and the invariant holds after it with this time. A frame that is refused leaves all as
+-- it was.
 use mathlib.Core.List.{List, [], _∷_, map}
-use mathlib.Core.Path.{_≡_, refl, ap, subst}
+use mathlib.Core.Path.{_≡_, refl, sym, ap, subst}
 use Prim.Native.Nat.{ℕ, _-_, _≤_, _<_}
 use native.Mathlib.Omega.{arith}
 use lib.Dec.{T}
@@ -12,17 +13,17 @@ use Rattle.rules.specs.Refusals.{Refused, refused, numberOf}
 use Rattle.rules.specs.declared.refusal.Refusal.the-variants.{Earlier}
 use Rattle.monitor.specs.declared.record.Record.{Record}
 use Rattle.monitor.specs.Record.{timeLimit}
-use Rattle.monitor.specs.Step.{Setup, frame, Reply, verdict, refusal}
-use Rattle.promises.specs.Stream.{State, setupOf, call, next, started, Keeps, eventOf, callTime}
+use Rattle.monitor.specs.Step.{Setup, timeOf, frame, Reply, verdict, refusal}
+use Rattle.promises.specs.Stream.{State, call, next, started, Keeps, eventOf}
 use Rattle.promises.specs.Refusing as Refusing
 use Rattle.promises.specs.Refusing.{TableRefused, StartRefused, CallRefused}
 use Rattle.promises.specs.AsIfNotMade.{judged}
-use Rattle.promises.specs.TextRead.{linesRead, goodLines, counterIn, frameIn}
-use Rattle.promises.specs.LineTimes.{replies, recordTimes, Every, accepted, LineTimesAreTrue, FramesNeverEarlier}
-use Rattle.promises.specs.Invariant.{Invariant}
-use Rattle.promises.proofs.Refusing.{refused-exactly, refusal-changes-nothing}
+use Rattle.promises.specs.TextRead.{linesRead, goodLines, counterIn, frameIn, framesOf, countersOf}
+use Rattle.promises.specs.LineTimes.{replies, recordTimes, Every, acceptedTimes, LineTimesAreTrue, TextTimesAreTrue, FramesNeverEarlier}
+use Rattle.promises.proofs.Invariant.{Invariant}
+use Rattle.promises.proofs.Refusing.{refused-exactly}
 use Rattle.promises.proofs.StartRight.{start-right}
-use Rattle.promises.proofs.CallKept.{kept-reply, only-kept, call-kept}
+use Rattle.promises.proofs.CallKept.{refused-same, kept-reply, only-kept, call-kept}
 
 -- True times go on from 0.
 true-close : (times : List ℕ) → TrueTimes times → Close 0 times
@@ -38,7 +39,7 @@ data Counted : List (List ℕ) → List ℕ → Type 0 where
       → Counted lines times
       → Counted (given ∷ lines) (time ∷ times)
 
-counted : (lines : List (List ℕ)) (times : List ℕ) → map counterIn lines ≡ map counterOf times → Counted lines times
+counted : (lines : List (List ℕ)) (times : List ℕ) → countersOf lines ≡ map counterOf times → Counted lines times
 counted [] [] same = no-line
 counted [] (time ∷ times) same = let clash : _≡_ {A = ℕ} 0 1 = cc in absurd (omega arith)
 counted (given ∷ lines) [] same = let clash : _≡_ {A = ℕ} 0 1 = cc in absurd (omega arith)
@@ -48,7 +49,7 @@ counted (given ∷ lines) (time ∷ times) same =
 -- One line more, with the counter of a time that did not fall, after a gap of less than a turn: where its frame is kept, its time is the clock.
 module _ {table : List ℕ} {h : History} {last : ℕ} {s : State} (inv : Invariant table h last s) (given : List ℕ) (time : ℕ)
     (same : counterIn given ≡ counterOf time) (risen : last ≤ time) (gap : time - last < turn) where
-  is-true : callTime last (frameIn given) ≡ time
+  is-true : timeOf last (frameIn given) ≡ time
   is-true = rw same (frame-time-true last time risen gap)
 
   keeps : time ≤ timeLimit → Keeps last (frameIn given)
@@ -62,7 +63,7 @@ module _ {table : List ℕ} {h : History} {last : ℕ} {s : State} (inv : Invari
 module _ (table : List ℕ) where
   abbrev AllTrue : State → List (List ℕ) → List ℕ → Type 0
   AllTrue s lines times =
-      Every (λ (reply : Reply). T (judged reply)) (replies table s (map frameIn lines)) × (recordTimes table s (map frameIn lines) ≡ times)
+      Every (λ (reply : Reply). T (judged reply)) (replies table s (framesOf lines)) × (recordTimes table s (framesOf lines) ≡ times)
 
   all-true : {h : History} {last : ℕ} {s : State} {lines : List (List ℕ)} {times : List ℕ}
       → Invariant table h last s
@@ -83,45 +84,47 @@ module _ (table : List ℕ) where
   AcceptedTrue lines times =
       (h : History) (last : ℕ) (s : State)
       → Invariant table h last s
-      → Close last (accepted (replies table s (map frameIn lines)) times)
-      → accepted (replies table s (map frameIn lines)) (recordTimes table s (map frameIn lines)) ≡ accepted (replies table s (map frameIn lines)) times
+      → Close last (acceptedTimes (replies table s (framesOf lines)) times)
+      → acceptedTimes (replies table s (framesOf lines)) (recordTimes table s (framesOf lines))
+      ≡ acceptedTimes (replies table s (framesOf lines)) times
 
   line-more : (given : List ℕ) (lines : List (List ℕ)) (time : ℕ) (times : List ℕ)
       → counterIn given ≡ counterOf time
       → AcceptedTrue lines times
       → AcceptedTrue (given ∷ lines) (time ∷ times)
-  unfolding replies recordTimes accepted Close
+  unfolding replies recordTimes acceptedTimes Close
   line-more given lines time times same more h last s inv = go (call table s (frameIn given) .reply) refl
     where
       answered : List Reply
-      answered = replies table s (map frameIn (given ∷ lines))
+      answered = replies table s (framesOf (given ∷ lines))
 
       go : (reply : Reply)
           → call table s (frameIn given) .reply ≡ reply
-          → Close last (accepted answered (time ∷ times))
-          → accepted answered (recordTimes table s (map frameIn (given ∷ lines))) ≡ accepted answered (time ∷ times)
+          → Close last (acceptedTimes answered (time ∷ times))
+          → acceptedTimes answered (recordTimes table s (framesOf (given ∷ lines))) ≡ acceptedTimes answered (time ∷ times)
       go (verdict holds) e close =
           let (risen, gap, further) = rw e at close in
           let on = after inv given time same risen gap (only-kept inv (frameIn given) holds e) in
           rw (e, on .time) (ap (λ (later : List ℕ). time ∷ later) (more _ _ _ on further))
       go (refusal fault) e close =
-          let (left, words) = refusal-changes-nothing .call (setupOf table) (s .store) (s .found) (frameIn given) fault e in
-          let same-state : s ≡ next table s (frameIn given) = rw (left, words) in
-          rw e (more h last _ (subst (Invariant table h last) same-state inv) (rw e at close))
+          rw e (more h last _ (subst (Invariant table h last) (sym (refused-same table s (frameIn given) e)) inv) (rw e at close))
 
   accepted-true : {lines : List (List ℕ)} {times : List ℕ} → Counted lines times → AcceptedTrue lines times
-  unfolding replies recordTimes accepted
+  unfolding replies recordTimes acceptedTimes
   accepted-true no-line = λ h last s inv close. refl
   accepted-true (line {given} {lines} {time} {times} same others) = line-more given lines time times same (accepted-true others)
 
 pub line-times-are-true : LineTimesAreTrue
-line-times-are-true table store text times starts same =
+line-times-are-true table store lines times starts same =
     let begun : Invariant table [] 0 (started table store) = start-right table store starts in
-    let line-by-line = counted (goodLines (linesRead text)) times same in
+    let line-by-line = counted lines times same in
     record {
       all = λ true-times. all-true table begun line-by-line (true-close times true-times);
       accepted-ones = λ true-times. accepted-true table line-by-line [] 0 (started table store) begun (true-close _ true-times);
     }
+
+pub text-times-are-true : TextTimesAreTrue
+text-times-are-true table store text times = line-times-are-true table store (goodLines (linesRead text)) times
 
 -- None of the refusals tried before 5 has its number, and the time of a frame is not below the last one.
 table-not-five : {table : List ℕ} {fault : Refused} → TableRefused table fault → ¬ (fault .number ≡ numberOf Earlier)

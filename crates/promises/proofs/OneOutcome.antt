@@ -3,25 +3,16 @@ use mathlib.Core.Option.{Option, none, some}
 use mathlib.Core.Path.{_≡_, refl, ap}
 use Rattle.rules.specs.Refusals.{Refused}
 use Rattle.rules.proofs.Outcomes.{one-said, refusalOf, refusal-back}
-use Rattle.monitor.specs.declared.answer.Answer.{Answer}
-use Rattle.monitor.specs.declared.answer.Answer.the-variants as Answer
 use Rattle.monitor.specs.declared.answer.Judged.{Judged}
 use Rattle.monitor.specs.declared.answer.StartAnswer.{StartAnswer}
 use Rattle.monitor.specs.declared.answer.StartAnswer.the-variants as StartAnswer
 use Rattle.monitor.specs.declared.answer.Started.{Started}
 use Rattle.monitor.specs.declared.answer.Timed.{Timed}
 use Rattle.monitor.specs.declared.answer.Timed.the-variants as Timed
+use Rattle.monitor.proofs.Outcomes.{answerOf, answer-back}
 use Rattle.monitor.specs.Start.{Beginning, startRefusal, saidStart}
-use Rattle.monitor.specs.Step.{Reply, verdict, refusal, said, Outcome, saidStep, TimeReply, at, notAt, saidTime}
+use Rattle.monitor.specs.Step.{Outcome, saidStep, TimeReply, at, notAt, saidTime}
 use Rattle.promises.specs.OneOutcome.{With, OneOutcome}
-
-abbrev answerOf : Reply → Answer
-answerOf (verdict holds) = Answer.Verdict holds
-answerOf (refusal fault) = Answer.Refused (refusalOf fault)
-
-answer-back : (answer : Answer) → answerOf (said answer) ≡ answer
-answer-back (Answer.Verdict holds) = refl
-answer-back (Answer.Refused fault) = ap Answer.Refused (refusal-back fault)
 
 abbrev judgedOf : Outcome → With Judged
 judgedOf o = record { result = record { answer = answerOf (o .reply); «record» = o .left }; store = o .store }

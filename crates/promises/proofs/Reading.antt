@@ -1,10 +1,10 @@
--- A frame is read, refused 8 or 9, or not there exactly as document 01 says, and the place moves as it says. The computed tests of a line tell its
+-- A line is read, refused 8 or 9, or not there exactly as document 01 says, and the place moves as it says. The computed tests of a line tell its
 -- conditions; what is answered then follows by cases.
 use mathlib.Core.Bool.{Bool, true, false, cond, _&&_}
 use mathlib.Core.List.{List, [], _∷_}
 use mathlib.Core.Logic.{_⊎_, _↔_, inl, inr, ⊎-elim}
 use mathlib.Core.Path.{_≡_, refl, sym, ap, subst, _∙_}
-use Prim.Native.Nat.{ℕ, zero, suc, _+_, _-_, _%_, _≤_, _<_}
+use Prim.Native.Nat.{ℕ, zero, suc, _+_, _*_, _-_, _%_, _≤_, _<_}
 use native.Mathlib.Nat.{add-zero}
 use native.Mathlib.Omega.{arith}
 use borrow.Author.Tests.{le-leb, lt-leb, eq-eqb, ne-eqb}
@@ -14,13 +14,14 @@ use lib.Seq.{getD-drop}
 use Rattle.meaning.proofs.SpansLaws.{le-or-lt}
 use Rattle.meaning.proofs.Tells.{Tells, tells-leb, tells-eqb, tells-and, tells-or, tells-same, tells-decided}
 use Rattle.rules.specs.Refusals.{Refused}
-use Rattle.lines.specs.Digits.{byteAt, byte0, byte9, byteA, byteF, isDigit, digitsAt}
-use Rattle.lines.specs.Line.{lineFeed, rightAt, sumAt, pastFirst, pastLineFeed, lineAt}
-use Rattle.lines.specs.Read.{Said, end, numbers, refusal, Read}
-use Rattle.lines.specs.Frame.{readFrame}
+use Rattle.lines.specs.Digits.{byteAt, byte0, byte9, byteA, byteF, isDigit, digitsAt, hexAt}
+use Rattle.lines.specs.Line.{lineFeed, rightAt, sumAt, pastFirst, pastLineFeed, digitsOf, lineAt}
+use Rattle.lines.specs.Read.{Said, end, numbers, refusal, Read, bytesOf, numbersAt, readLine}
+use Rattle.lines.specs.Frame.{frameWidths}
+use Rattle.lines.specs.Rule.{ruleWidths}
 use Rattle.lines.proofs.DigitLaws.{digitsAt-most}
 use Rattle.lines.proofs.LineLaws.{next-past}
-use Rattle.promises.specs.Reading.{Digit, number, letter, dataBytes, byteValues, frameDigits, frameBytes, WellFormed, byteOf, sumOf, SumRight, LineRefused, eight, nine, LineGood, ReadRefusedExactly, NoLineFeed, Past, first, none, PlaceMoves}
+use Rattle.promises.specs.Reading.{Digit, number, letter, byteValues, WellFormed, SumRight, LineRefused, eight, nine, LineGood, SaidExactly, dataBytes, counterAndMask, ruleNumbers, ReadRefusedExactly, NoLineFeed, Past, first, none, PlaceMoves}
 use Rattle.promises.proofs.Deciding.{told-true, told-false}
 
 digit-told : (byte : ℕ) → Tells (isDigit byte) (Digit byte)
@@ -66,92 +67,105 @@ full-told true count n most told = record { sound = λ _. told .sound tt; comple
 full-told false count n most told =
     record { sound = λ same. absurd (omega (arith, eqb→eq count (n + 1) same)); complete = λ holds. absurd (told .complete holds) }
 
-module _ (text : List ℕ) (place : ℕ) where
-  formed-told : Tells (eqb (rightAt text place frameDigits) (frameDigits + 1)) (WellFormed text place)
-  unfolding rightAt
-  formed-told =
-      tells-same
-      (λ h. record { digits = h .0; fed = h .1 })
-      (λ formed. (formed .digits, formed .fed))
-      (full-told _ (digitsAt text place frameDigits) frameDigits (digitsAt-most text place frameDigits)
-      (tells-and (digits-told text place frameDigits) (tells-eqb (byteAt text (place + frameDigits)) lineFeed)))
+-- A line whose numbers have these widths, and shows these.
+module _ (widths : List ℕ) (shows : List ℕ → ℕ → List ℕ) (same : (text : List ℕ) (place : ℕ) → numbersAt text place 0 widths ≡ shows text place) where
+  abbrev bytes : ℕ
+  bytes = bytesOf widths
 
-  sum-told : Tells (eqb (sumAt text place dataBytes % byteValues) (byteOf text place dataBytes)) (SumRight text place)
-  unfolding sumAt
-  sum-told =
-      let same : sumAt text place dataBytes ≡ sumOf text place = omega arith in
-      rw same (tells-eqb _ (byteOf text place dataBytes))
+  module _ (text : List ℕ) (place : ℕ) where
+    formed-told : Tells (eqb (rightAt text place (digitsOf bytes)) (digitsOf bytes + 1)) (WellFormed bytes text place)
+    unfolding rightAt
+    formed-told =
+        tells-same
+        (λ h. record { digits = h .0; fed = h .1 })
+        (λ formed. (formed .digits, formed .fed))
+        (full-told _ (digitsAt text place (digitsOf bytes)) (digitsOf bytes) (digitsAt-most text place (digitsOf bytes))
+        (tells-and (digits-told text place (digitsOf bytes)) (tells-eqb (byteAt text (place + digitsOf bytes)) lineFeed)))
 
-  -- A digit is not missing, so a well formed line is before the end.
-  inside : WellFormed text place → place < length text
-  inside formed =
-      ⊎-elim
-      (λ past.
-      let missing : byteAt text (place + 0) ≡ 0 = List·getD-eq-default text 0 (omega arith) in
-      absurd (some-byte (formed .digits 0 (omega arith)) missing))
-      (λ within. within)
-      (le-or-lt (length text) place)
-    where
-      some-byte : {byte : ℕ} → Digit byte → ¬ (byte ≡ 0)
-      some-byte (number low high) zero-byte = omega arith
-      some-byte (letter low high) zero-byte = omega arith
+    sum-told : Tells (eqb (sumAt text place bytes % byteValues) (hexAt text (place + 2 * bytes) 2)) (SumRight bytes text place)
+    sum-told = tells-eqb _ _
 
-  good-read : {given : List ℕ} → LineGood text place given → readFrame text place ≡ record { said = numbers given; next = place + frameBytes }
-  unfolding lineAt
-  good-read good =
-      rw (
-        lt-leb (length text) place (inside (good .formed)),
-        told-true formed-told (good .formed),
-        told-true sum-told (good .sum),
-        good .counter-and-mask,
-        add-zero place,
-      )
+    -- A digit is not missing, so a well formed line is before the end.
+    inside : WellFormed bytes text place → place < length text
+    inside formed =
+        ⊎-elim
+        (λ past.
+        let missing : byteAt text (place + 0) ≡ 0 = List·getD-eq-default text 0 (omega arith) in
+        absurd (some-byte (formed .digits 0 (omega arith)) missing))
+        (λ within. within)
+        (le-or-lt (length text) place)
+      where
+        some-byte : {byte : ℕ} → Digit byte → ¬ (byte ≡ 0)
+        some-byte (number low high) zero-byte = omega arith
+        some-byte (letter low high) zero-byte = omega arith
 
-  -- What a saying means, and that it is said where this holds.
-  abbrev Means : Said → Type 0
-  Means end = length text ≤ place
-  Means (numbers given) = LineGood text place given
-  Means (refusal fault) = LineRefused text place fault
+    good-read : {given : List ℕ}
+        → LineGood bytes shows text place given
+        → readLine widths text place ≡ record { said = numbers given; next = place + (digitsOf bytes + 1) }
+    unfolding lineAt
+    good-read good =
+        rw (
+          lt-leb (length text) place (inside (good .formed)),
+          told-true formed-told (good .formed),
+          told-true sum-told (good .sum),
+          same text place,
+          good .shown,
+        )
 
-  refused-said : (fault : Refused) → LineRefused text place fault → readFrame text place .said ≡ refusal fault
-  unfolding lineAt
-  refused-said _ (eight before wrong) = rw (lt-leb (length text) place before, told-false formed-told wrong)
-  refused-said _ (nine formed wrong) =
-      rw (lt-leb (length text) place (inside formed), told-true formed-told formed, told-false sum-told wrong)
+    -- What a saying means, and that it is said where this holds.
+    abbrev Means : Said → Type 0
+    Means end = length text ≤ place
+    Means (numbers given) = LineGood bytes shows text place given
+    Means (refusal fault) = LineRefused bytes text place fault
 
-  means-said : (said : Said) → Means said → readFrame text place .said ≡ said
-  unfolding lineAt
-  means-said end past = rw (le-leb (length text) place past)
-  means-said (numbers given) good = ap (λ (read : Read). read .said) (good-read good)
-  means-said (refusal fault) wrong = refused-said fault wrong
+    refused-said : (fault : Refused) → LineRefused bytes text place fault → readLine widths text place .said ≡ refusal fault
+    unfolding lineAt
+    refused-said _ (eight before wrong) = rw (lt-leb (length text) place before, told-false formed-told wrong)
+    refused-said _ (nine formed wrong) =
+        rw (lt-leb (length text) place (inside formed), told-true formed-told formed, told-false sum-told wrong)
 
-  some-saying : (said : Said) × Means said
-  some-saying =
-      ⊎-elim
-      (λ past. (end, past))
-      (λ before.
-      ⊎-elim
-      (λ formed.
-      ⊎-elim
-      (λ sum. (numbers _, record { formed = formed; sum = sum; counter-and-mask = refl }))
-      (λ wrong. (refusal _, nine formed wrong))
-      (tells-decided sum-told))
-      (λ wrong. (refusal _, eight before wrong))
-      (tells-decided formed-told))
-      (le-or-lt (length text) place)
+    means-said : (said : Said) → Means said → readLine widths text place .said ≡ said
+    unfolding lineAt
+    means-said end past = rw (le-leb (length text) place past)
+    means-said (numbers given) good = ap (λ (read : Read). read .said) (good-read good)
+    means-said (refusal fault) wrong = refused-said fault wrong
 
-  said-exactly : (said : Said) → (readFrame text place .said ≡ said) ↔ Means said
-  said-exactly said =
-      let (other, meant) = some-saying in
-      (λ e. subst Means (sym (means-said other meant) ∙ e) meant, means-said said)
+    some-saying : (said : Said) × Means said
+    some-saying =
+        ⊎-elim
+        (λ past. (end, past))
+        (λ before.
+        ⊎-elim
+        (λ formed.
+        ⊎-elim
+        (λ sum. (numbers _, record { formed = formed; sum = sum; shown = refl }))
+        (λ wrong. (refusal _, nine formed wrong))
+        (tells-decided sum-told))
+        (λ wrong. (refusal _, eight before wrong))
+        (tells-decided formed-told))
+        (le-or-lt (length text) place)
+
+    said-means : (said : Said) → (readLine widths text place .said ≡ said) ↔ Means said
+    said-means said =
+        let (other, meant) = some-saying in
+        (λ e. subst Means (sym (means-said other meant) ∙ e) meant, means-said said)
+
+  said-exactly : SaidExactly (readLine widths) bytes shows
+  said-exactly =
+      record {
+        ends = λ text place. said-means text place end;
+        refuses = λ text place fault. said-means text place (refusal fault);
+        reads = λ text place given. said-means text place (numbers given);
+      }
+
+frame-shows : (text : List ℕ) (place : ℕ) → numbersAt text place 0 frameWidths ≡ counterAndMask text place
+frame-shows text place = rw (add-zero place)
+
+rule-shows : (text : List ℕ) (place : ℕ) → numbersAt text place 0 ruleWidths ≡ ruleNumbers text place
+rule-shows text place = rw (add-zero place)
 
 pub read-refused-exactly : ReadRefusedExactly
-read-refused-exactly =
-    record {
-      ends = λ text place. said-exactly text place end;
-      refuses = λ text place fault. said-exactly text place (refusal fault);
-      reads = λ text place given. said-exactly text place (numbers given);
-    }
+read-refused-exactly = record { frame = said-exactly frameWidths counterAndMask frame-shows; rule = said-exactly ruleWidths ruleNumbers rule-shows }
 
 -- Past the first line feed of a list of bytes, and so of a text from a place on.
 no-more-feeds : (byte : ℕ) (bytes : List ℕ) (to : ℕ) → ¬ (byte ≡ lineFeed) → NoLineFeed bytes 0 to → NoLineFeed (byte ∷ bytes) 0 (suc to)
@@ -189,17 +203,19 @@ module _ (text : List ℕ) (place : ℕ) where
   unfolding pastLineFeed
   past-line-feed within = past-from (pastFirst (drop place text)) within (first-past (drop place text))
 
-  refused-before : {fault : Refused} → LineRefused text place fault → place < length text
+  refused-before : {fault : Refused} → LineRefused dataBytes text place fault → place < length text
   refused-before (eight before wrong) = before
-  refused-before (nine formed wrong) = inside text place formed
+  refused-before (nine formed wrong) = inside frameWidths counterAndMask frame-shows text place formed
 
   pub place-moves : PlaceMoves text place
   unfolding lineAt
   place-moves =
+      let exactly = read-refused-exactly .frame in
       record {
-        ended = λ e. rw (le-leb (length text) place (read-refused-exactly .ends text place .0 e));
-        good = λ given e. ap (λ (read : Read). read .next) (good-read text place (read-refused-exactly .reads text place given .0 e));
+        ended = λ e. rw (le-leb (length text) place (exactly .ends text place .0 e));
+        good = λ given e.
+            ap (λ (read : Read). read .next) (good-read frameWidths counterAndMask frame-shows text place (exactly .reads text place given .0 e));
         refused = λ fault e.
-            let before = refused-before (read-refused-exactly .refuses text place fault .0 e) in
+            let before = refused-before (exactly .refuses text place fault .0 e) in
             rw (next-past text place dataBytes before) (past-line-feed (omega arith));
       }

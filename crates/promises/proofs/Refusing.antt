@@ -17,9 +17,9 @@ use Rattle.rules.specs.declared.refusal.Refusal.the-variants.{Earlier, Late, Re
 use Rattle.monitor.specs.declared.record.Record as Kept
 use Rattle.monitor.specs.Record.{timeLimit, nothingSeen}
 use Rattle.monitor.specs.Ready.{readyOf}
-use Rattle.monitor.specs.Event.{Moment}
+use Rattle.monitor.specs.Event.{Moment, recordAfter}
 use Rattle.monitor.specs.Start.{begin, startOf}
-use Rattle.monitor.specs.Step.{Setup, Call, timeOf, refusalOf, momentOf, afterOf, verdictOf, verdict, refusal, outcome, stepOf, at, notAt, frameTimeOf}
+use Rattle.monitor.specs.Step.{Setup, Call, timeOf, refusalOf, momentOf, verdictOf, verdict, refusal, outcome, stepOf, at, notAt, frameTimeOf}
 use Rattle.promises.specs.Conditions.{Ready, RecordRight}
 use Rattle.promises.specs.Refusing.{TableRefused, StartRefused, CallRefused, start, seven, six, five, RefusedExactly, RefusalChangesNothing}
 use Rattle.promises.proofs.Deciding.{told-true, told-false, exactly}
@@ -50,8 +50,8 @@ start-exactly table store =
 pub record Accepted (setup : Setup) (store : List ℕ) (found : Kept.Record) (c : Call) : Type 0 where
   pub ready : Ready (setup .table) (length store)
   pub sound : RecordRight (setup .table) store found
-  pub early : timeOf found c ≤ timeLimit
-  pub risen : found .time ≤ timeOf found c
+  pub early : timeOf (found .time) c ≤ timeLimit
+  pub risen : found .time ≤ timeOf (found .time) c
 
 module _ (setup : Setup) (store : List ℕ) (found : Kept.Record) (c : Call) where
   call-refuses : (fault : Refused) → CallRefused setup store found c fault → refusalOf setup store found c ≡ some fault
@@ -63,14 +63,14 @@ module _ (setup : Setup) (store : List ℕ) (found : Kept.Record) (c : Call) whe
       rw (
         start-passes (setup .table) (length store) ready,
         told-true (record-told (setup .table) store ready found) right,
-        lt-leb (timeOf found c) timeLimit late,
+        lt-leb (timeOf (found .time) c) timeLimit late,
       )
   call-refuses _ (five ready right early before) =
       rw (
         start-passes (setup .table) (length store) ready,
         told-true (record-told (setup .table) store ready found) right,
-        le-leb (timeOf found c) timeLimit early,
-        lt-leb (found .time) (timeOf found c) before,
+        le-leb (timeOf (found .time) c) timeLimit early,
+        lt-leb (found .time) (timeOf (found .time) c) before,
       )
 
   pub call-passes : Accepted setup store found c → refusalOf setup store found c ≡ none
@@ -79,8 +79,8 @@ module _ (setup : Setup) (store : List ℕ) (found : Kept.Record) (c : Call) whe
       rw (
         start-passes (setup .table) (length store) (accepted .ready),
         told-true (record-told (setup .table) store (accepted .ready) found) (accepted .sound),
-        le-leb (timeOf found c) timeLimit (accepted .early),
-        le-leb (found .time) (timeOf found c) (accepted .risen),
+        le-leb (timeOf (found .time) c) timeLimit (accepted .early),
+        le-leb (found .time) (timeOf (found .time) c) (accepted .risen),
       )
 
   -- One of the two is so: by the times, by the record, and from the start.
@@ -94,9 +94,9 @@ module _ (setup : Setup) (store : List ℕ) (found : Kept.Record) (c : Call) whe
       ⊎-map
       (λ risen. record { ready = ready; sound = sound; early = early; risen = risen })
       (λ before. (refused Earlier, five ready sound early before))
-      (le-or-lt (found .time) (timeOf found c)))
+      (le-or-lt (found .time) (timeOf (found .time) c)))
       (λ late. inr (refused Late, six ready sound late))
-      (le-or-lt (timeOf found c) timeLimit)
+      (le-or-lt (timeOf (found .time) c) timeLimit)
 
   record-decided : Ready (setup .table) (length store) → Decided
   record-decided ready =
@@ -123,7 +123,7 @@ module _ (setup : Setup) (store : List ℕ) (found : Kept.Record) (c : Call) whe
       (λ fault wrong. rw (call-refuses fault wrong))
       (λ accepted fault e.
       let m = momentOf setup store found c in
-      let judged : stepOf setup store found c .reply ≡ verdict (verdictOf setup (afterOf m .truths)) = rw (call-passes accepted) in
+      let judged : stepOf setup store found c .reply ≡ verdict (verdictOf setup (recordAfter m .truths)) = rw (call-passes accepted) in
       let clash : _≡_ {A = ℕ} 0 1 = cc in
       omega arith)
       call-decided

@@ -16,7 +16,7 @@ use Rattle.monitor.specs.Step.{Call, refusal}
 use Rattle.promises.specs.Stream.{Starts, state, history, clock, outcome}
 use Rattle.promises.specs.Spans.{RowRuns}
 use Rattle.promises.specs.Room.{NeverShortOfRoom}
-use Rattle.promises.specs.Invariant.{Invariant}
+use Rattle.promises.proofs.Invariant.{Invariant}
 use Rattle.promises.proofs.SpannedLaws.{spanned-enough}
 use Rattle.promises.proofs.InvariantLaws.{passes}
 use Rattle.promises.proofs.CallKept.{refused-only}

@@ -3,10 +3,10 @@ use mathlib.Core.Bool.{false}
 use mathlib.Core.List.{List, _++_, append-assoc}
 use mathlib.Core.Logic.{⊎-elim}
 use mathlib.Core.Path.{_≡_, refl}
-use Prim.Native.Nat.{ℕ, zero, suc, _+_, _*_, _≤_, _<_}
+use Prim.Native.Nat.{ℕ, zero, suc, _≤_, _<_}
 use native.Mathlib.Nat.{eq-or-lt-of-le, le-of-suc-le-suc}
 use native.Mathlib.Omega.{arith}
-use lib.ListN.{length, getD, take, drop, set, length-append, length-drop, length-set}
+use lib.ListN.{length, getD, take, drop, set, length-set}
 use lib.Seq.{getD-set-same, getD-set-other, take-at, drop-at}
 use Rattle.rules.specs.Rows.{rowsOf, numbersAt}
 use Rattle.rules.specs.Stretches.{width, offset}
@@ -14,6 +14,7 @@ use Rattle.spans.specs.Layout.{packed, Laid}
 use Rattle.monitor.specs.Record.{truthAt, heldAt, stretchAt}
 use Rattle.monitor.specs.Event.{Moment, truthOf, truthsAfter, spansNow, countsAfter, wordsDone, storeAfter, recordAfter}
 use Rattle.spans.proofs.LayoutLaws.{length-packed}
+use Rattle.monitor.proofs.EventLaws.{Room, length-done}
 
 -- Lists that are made by setting the entry of each row in turn.
 module _ {A : Type 0} (made : ℕ → List A) (entry : ℕ → A) (next : (n : ℕ) → made (suc n) ≡ set (made n) n (entry n)) where
@@ -73,29 +74,7 @@ module _ (m : Moment) where
   count-left n r later = rising-later (countsAfter m) (λ r. length (spansNow m r)) counts-next 0 n r later
 
 -- The words after the rows below n, where the spans of each of them have room in its stretch.
-abbrev pub Room : Moment → ℕ → Type 0
-Room m n = (r : ℕ) → r < n → 2 * length (spansNow m r) ≤ width (numbersAt (m .table) r)
-
 module _ (m : Moment) where
-  pub length-done : (n : ℕ) → Room m n → length (wordsDone m n) ≡ offset (m .table) n
-  unfolding wordsDone offset
-  length-done zero room = refl
-  length-done (suc n) room =
-      rw (
-        length-append,
-        length-done n (λ r below. room r (omega arith)),
-        length-packed (width (numbersAt (m .table) n)) (spansNow m n) (room n (omega arith)),
-      )
-
-  pub length-store : (n : ℕ) → Room m n → offset (m .table) n ≤ length (m .store) → length (storeAfter m n) ≡ length (m .store)
-  unfolding storeAfter
-  length-store n room fits = rw (length-append, length-done n room, length-drop) (omega arith)
-
-  -- Words past the rows' stretches are as found.
-  pub words-left : (n : ℕ) → Room m n → drop (offset (m .table) n) (storeAfter m n) ≡ drop (offset (m .table) n) (m .store)
-  unfolding storeAfter
-  words-left n room = drop-at (wordsDone m n) (drop (offset (m .table) n) (m .store)) (offset (m .table) n) (length-done n room)
-
   done-at : (n : ℕ) (rest : List ℕ) (r : ℕ)
       → r < n
       → Room m n
@@ -111,7 +90,7 @@ module _ (m : Moment) where
       (λ e.
       rw (
         e,
-        drop-at (wordsDone m n) (words ++ rest) (offset (m .table) n) (length-done n before),
+        drop-at (wordsDone m n) (words ++ rest) (offset (m .table) n) (length-done m n before),
         take-at words rest (width (numbersAt (m .table) n)) (length-packed (width (numbersAt (m .table) n)) (spansNow m n) (room n (omega arith))),
       ))
       (λ below. done-at n (words ++ rest) r below before)

@@ -14,12 +14,13 @@ use Rattle.monitor.specs.declared.record.Record.{Record}
 use Rattle.monitor.specs.Record.{timeLimit}
 use Rattle.monitor.specs.Event.{Moment, spansNow, countsAfter, storeAfter, recordAfter}
 use Rattle.monitor.specs.Step.{Setup, refusalOf, momentOf, verdict, outcome, stepOf}
+use Rattle.monitor.proofs.EventLaws.{Room, length-store}
 use Rattle.promises.specs.Conditions.{Ready, RecordRight}
-use Rattle.promises.specs.Words.{Sized, SoundIsKept}
-use Rattle.promises.proofs.RowsAfter.{Room, length-truths, truth-left, length-counts, count-set, count-left, length-store, row-laid}
+use Rattle.promises.specs.SoundIsKept.{Sized, SoundIsKept}
+use Rattle.promises.proofs.RowsAfter.{length-truths, truth-left, length-counts, count-set, count-left, row-laid}
 use Rattle.promises.proofs.StretchTold.{since-spans, other-spans}
 use Rattle.promises.proofs.RecordTold.{within-or-past}
-use Rattle.promises.proofs.SoundAfter.{now-sound, now-fits, room-after}
+use Rattle.promises.proofs.SoundAfter.{now-sound, room-after}
 use Rattle.promises.proofs.Refusing.{Accepted, accepted-of}
 
 unseen-never : {A : Type 0} → true ≡ false → A
@@ -39,12 +40,14 @@ module _
     abbrev count : ℕ → ℕ
     count row = getD (countsAfter m rows) row 0
 
+    room : Room m rows
+    room = room-after m ready right early risen
+
     has-entry : (row : ℕ) → row < rows → row < length (m .found .counts)
     has-entry row lower = omega (arith, ready .right .lengths .most, sized .counts)
 
     count-fits : (row : ℕ) → row < rows → count row ≤ spansOf (numbersAt (m .table) row)
-    count-fits row lower =
-        rw (count-set m rows row lower (has-entry row lower)) (now-fits m ready right risen row lower)
+    count-fits row lower = rw (count-set m rows row lower (has-entry row lower)) (omega (arith, room row lower))
 
     pub sound-after : RecordRight (m .table) (storeAfter m rows) (recordAfter m)
     unfolding recordAfter
@@ -68,7 +71,7 @@ module _
           stretches = λ row lower since.
               record {
                 spans = spansNow m row;
-                laid = row-laid m row lower (has-entry row lower) (room-after m ready right risen);
+                laid = row-laid m row lower (has-entry row lower) room;
                 sound = now-sound m ready right risen row lower;
               };
         }
@@ -94,7 +97,7 @@ sound-is-kept setup store found c holds sized e =
     let m = momentOf setup store found c in
     let passes : refusalOf setup store found c ≡ none = verdict-passes setup store found m (refusalOf setup store found c) holds e in
     let accepted : Accepted setup store found c = accepted-of setup store found c passes in
-    let room : Room m (rowsOf (m .table)) = room-after m (accepted .ready) (accepted .sound) (accepted .risen) in
+    let room : Room m (rowsOf (m .table)) = room-after m (accepted .ready) (accepted .sound) (accepted .early) (accepted .risen) in
     record {
       sound = rw passes (sound-after m (accepted .ready) (accepted .sound) (accepted .risen) (accepted .early) sized);
       sized = rw passes (sized-after m sized);

@@ -1,13 +1,12 @@
--- The spans that a row should hold are sound, can be stored, and have room in its stretch; before any event there are none.
+-- The spans that a row should hold are sound and have room in its stretch; before any event there are none.
 use mathlib.Core.List.{List, []}
 use mathlib.Core.Path.{_≡_, ap}
 use Prim.Native.Nat.{ℕ, _+_, _≤_, max}
 use native.Mathlib.Omega.{arith}
 use lib.ListN.{length}
-use Rattle.meaning.specs.Interval.{endOf, _+End_}
+use Rattle.meaning.specs.Interval.{endOf}
 use Rattle.meaning.specs.History.{History}
 use Rattle.meaning.specs.Spans.{Span}
-use Rattle.meaning.specs.Sound.{lengthOf}
 use Rattle.meaning.proofs.HistoryLaws.{NoLater}
 use Rattle.meaning.proofs.SoundLaws.{runs-sound}
 use Rattle.meaning.proofs.RunsLaws.{runs-only, runs-none}
@@ -16,14 +15,10 @@ use Rattle.rules.specs.Kinds.{Rule, plain, stretch}
 use Rattle.rules.specs.Rows.{numbersAt}
 use Rattle.rules.specs.Stretches.{spansSaid}
 use Rattle.rules.proofs.PassedLaws.{InRange, range-order}
-use Rattle.monitor.specs.Record.{timeLimit}
-use Rattle.spans.proofs.LayoutLaws.{Stored}
-use Rattle.spans.proofs.SoundTold.{sound-stored}
+use Rattle.promises.specs.Conditions.{RowSound}
 use Rattle.promises.specs.Spans.{NamedHolds}
-use Rattle.promises.specs.Invariant.{Spanned}
-use Rattle.promises.proofs.RangeLaws.{latest-storable}
+use Rattle.promises.proofs.Invariant.{Spanned}
 use Rattle.promises.proofs.StretchTold.{none-sound}
-use Rattle.promises.proofs.SoundAfter.{RowSound}
 
 module _ (table : List ℕ) (row : ℕ) (h : History) (clock : ℕ) where
   pub spanned-sound : NoLater clock h
@@ -50,16 +45,6 @@ module _ (table : List ℕ) (row : ℕ) (h : History) (clock : ℕ) where
       let a = numbersAt table row .a in
       figure-is-enough clock (clock + a) clock a (endOf (numbersAt table row .b)) S (omega arith)
       (spanned-sound ordered range (stretch keep feed) S spanned)
-
-  pub spanned-stored : clock ≤ timeLimit
-      → InRange (numbersAt table row .a) (numbersAt table row .b)
-      → (S : List Span)
-      → RowSound (numbersAt table row) clock S
-      → Stored S
-  spanned-stored within range S sound =
-      let a = numbersAt table row .a in
-      let b = numbersAt table row .b in
-      sound-stored clock (clock + a) (clock +End endOf b) (lengthOf a (endOf b)) S (latest-storable clock a b within range) sound
 
 pub spanned-none : (table : List ℕ) (row clock : ℕ) (rule : Rule) (S : List Span) → Spanned table row [] clock rule S → S ≡ []
 spanned-none table row clock (plain says) S spanned = spanned

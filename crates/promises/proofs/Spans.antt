@@ -17,8 +17,8 @@ use Rattle.rules.specs.RowFormula.{formulaOf}
 use Rattle.rules.proofs.PassedLaws.{passed-formula}
 use Rattle.monitor.specs.Record.{truthAt}
 use Rattle.promises.specs.Stream.{State, state, history}
-use Rattle.promises.specs.Spans.{RowRuns, Runned, SpansAreTheRuns}
-use Rattle.promises.specs.Invariant.{Says, Invariant}
+use Rattle.promises.specs.Spans.{RowRuns, HoldsRuns, SpansAreTheRuns}
+use Rattle.promises.proofs.Invariant.{Says, Invariant}
 use Rattle.promises.proofs.SpannedLaws.{spanned-none}
 use Rattle.promises.proofs.InvariantLaws.{passes}
 use Rattle.promises.proofs.StreamKept.{stream-kept}
@@ -44,12 +44,13 @@ module _ (table : List ℕ) (row : ℕ) (keep feed : Source) where
       in
       (λ yes. means .1 (says .0 yes), λ inside. says .1 (means .0 inside))
 
-  module _ (h : History) (s : State) (inv : Invariant table h (lastTime h) s) (known : row < rowsOf table) (since : ruleOf (numbersAt table row) ≡ stretch keep feed) where
+  module _ (h : History) (s : State) (inv : Invariant table h (lastTime h) s) (known : row < rowsOf table)
+      (since : ruleOf (numbersAt table row) ≡ stretch keep feed) where
     since-made : formulaOf table row ≡ sinceFormula
     since-made = passed-formula table (rowsOf table) (needOf table) row (passes inv) known ∙ rw since
 
-    row-runned : Runned table row keep feed h (lastTime h) s
-    row-runned =
+    row-holds : HoldsRuns table row keep feed h (lastTime h) s
+    row-holds =
         let runs : RowRuns table row keep feed h (lastTime h) (inv .follows row known .spans) =
         rw since at (inv .follows row known .spanned)
         in
@@ -64,4 +65,4 @@ module _ (table : List ℕ) (row : ℕ) (keep feed : Source) where
 
 pub spans-are-the-runs : SpansAreTheRuns
 spans-are-the-runs table store starts calls row keep feed known since =
-    row-runned table row keep feed (history calls) (state table store calls) (stream-kept table store starts calls) known since
+    row-holds table row keep feed (history calls) (state table store calls) (stream-kept table store starts calls) known since

@@ -1,5 +1,5 @@
--- A call and a start look only at the words of the need. Row by row: each stretch lies within the need, so the spans found are the same, and with them
--- the test of soundness and what the event leaves.
+-- A call and a start look only at the words of the need. Row by row: each stretch lies within the need, so the spans found are the same, and with
+-- them the test of soundness and what the event leaves.
 use mathlib.Core.Bool.{Bool}
 use mathlib.Core.List.{List}
 use mathlib.Core.Logic.{⊎-elim}
@@ -10,24 +10,21 @@ use native.Mathlib.Omega.{arith}
 use borrow.Author.Tests.{le-leb}
 use lib.ListN.{length, take, drop, replicate, length-replicate}
 use lib.Seq.{length-take-le, take-take, take-add, take-at, drop-at}
-use Rattle.meaning.specs.Spans.{Span}
-use Rattle.rules.specs.Kinds.{Plain, truth, bit, negation, both, either, previous, Rule, plain, stretch}
 use Rattle.rules.specs.Refusals.{Refused}
-use Rattle.rules.specs.Rows.{rowsOf, numbersAt, ruleOf}
+use Rattle.rules.specs.Rows.{rowsOf, numbersAt}
 use Rattle.rules.specs.Stretches.{width, offset, needOf}
-use Rattle.rules.specs.declared.numbers.Numbers.{Numbers}
 use Rattle.rules.specs.Table.{Said, passed, refusedBy}
 use Rattle.rules.proofs.StretchesLaws.{stretch-before}
 use Rattle.monitor.specs.declared.record.Record.{Record}
-use Rattle.monitor.specs.Record.{stretchAt, spansFound}
+use Rattle.monitor.specs.Record.{stretchAt}
 use Rattle.monitor.specs.Soundness.{every, soundRow?, sound?}
 use Rattle.monitor.specs.Ready.{readyOf}
 use Rattle.monitor.specs.Start.{startOf}
-use Rattle.monitor.specs.Event.{Moment, spansBy, spansAfter, truthBy, truthOf, truthsAfter, spansNow, countsAfter, wordsDone, storeAfter, recordAfter}
-use Rattle.monitor.specs.Step.{Setup, Call, refusalOf, momentOf, stepOf}
-use Rattle.promises.specs.Words.{SameNeeded, Alike, BegunAlike, SpareWords}
+use Rattle.monitor.specs.Event.{Moment, spansAfter, truthOf, truthsAfter, spansNow, countsAfter, wordsDone, recordAfter}
+use Rattle.monitor.specs.Step.{Setup, Call, timeOf, maskOf, refusalOf, momentOf, stepOf}
+use Rattle.monitor.proofs.EventLaws.{spans-same, truth-same, Room, words-done, words-left}
+use Rattle.promises.specs.SpareWords.{SameNeeded, Alike, BegunAlike, SpareWords}
 use Rattle.promises.proofs.TableRefusals.{table-refuses, table-passes, table-decided, start-refuses, start-passes, start-decided}
-use Rattle.promises.proofs.RowsAfter.{Room, length-done, words-left}
 use Rattle.promises.proofs.SoundAfter.{room-after}
 use Rattle.promises.proofs.Refusing.{Accepted, accepted-of}
 
@@ -43,11 +40,6 @@ stretch-from table store row lower room =
     let within : o + w ≤ needOf table = stretch-before table row (rowsOf table) lower in
     rw (take-take (o + w) (needOf table) store within, take-add o w store)
     (sym (drop-at (take o store) (take w (drop o store)) o (length-take-le o store (omega arith))))
-
--- The words of the need, after an event that leaves room.
-needed-after : (m : Moment) (n : ℕ) → Room m n → take (offset (m .table) n) (storeAfter m n) ≡ wordsDone m n
-unfolding storeAfter
-needed-after m n room = take-at (wordsDone m n) (drop (offset (m .table) n) (m .store)) (offset (m .table) n) (length-done m n room)
 
 every-same : (n : ℕ) (test other : ℕ → Bool) → ((row : ℕ) → row < n → test row ≡ other row) → every n test ≡ every n other
 unfolding every
@@ -85,41 +77,23 @@ module _ (setup : Setup) (store other : List ℕ) (found : Record) (c : Call) (a
   unfolding refusalOf
   same-refusal = rw (same-ready (setup .table) store other alike, same-sound (setup .table) store other alike found)
 
-  -- The call at the one store and at the other; one-event rules read the store through the spans found alone.
+  -- The call at the one store and at the other.
+  abbrev time : ℕ
+  time = timeOf (found .time) c
+
   abbrev m : Moment
   m = momentOf setup store found c
 
   abbrev m′ : Moment
   m′ = momentOf setup other found c
 
-  by-same : (truths : List Bool) (before : List Span) (n : Numbers) (rule : Rule) → spansBy m truths before n rule ≡ spansBy m′ truths before n rule
-  by-same truths before n (plain says) = refl
-  by-same truths before n (stretch keep feed) = refl
-
-  plain-same : (truths : List Bool) (after : List Span) (n : Numbers) (says : Plain)
-      → truthBy m truths after n (plain says) ≡ truthBy m′ truths after n (plain says)
-  plain-same truths after n truth = refl
-  plain-same truths after n bit = refl
-  plain-same truths after n negation = refl
-  plain-same truths after n both = refl
-  plain-same truths after n either = refl
-  plain-same truths after n previous = refl
-
-  truth-same : (truths : List Bool) (after : List Span) (n : Numbers) (rule : Rule) → truthBy m truths after n rule ≡ truthBy m′ truths after n rule
-  truth-same truths after n (plain says) = plain-same truths after n says
-  truth-same truths after n (stretch keep feed) = refl
-
   same-spans : (row : ℕ) (truths : List Bool) → row < rowsOf (setup .table) → spansAfter m row truths ≡ spansAfter m′ row truths
-  unfolding spansAfter
   same-spans row truths lower =
-      rw (same-stretch (setup .table) store other alike row lower)
-      (by-same truths (spansFound (setup .table) other found row) (numbersAt (setup .table) row) (ruleOf (numbersAt (setup .table) row)))
+      spans-same (setup .table) other store found time (maskOf c) row truths (same-stretch (setup .table) store other alike row lower)
 
   same-truth : (row : ℕ) (truths : List Bool) → row < rowsOf (setup .table) → truthOf m row truths ≡ truthOf m′ row truths
-  unfolding truthOf
   same-truth row truths lower =
-      rw (same-spans row truths lower)
-      (truth-same truths (spansAfter m′ row truths) (numbersAt (setup .table) row) (ruleOf (numbersAt (setup .table) row)))
+      truth-same (setup .table) other store found time (maskOf c) row truths (same-stretch (setup .table) store other alike row lower)
 
   same-truths : (n : ℕ) → n ≤ rowsOf (setup .table) → truthsAfter m n ≡ truthsAfter m′ n
   unfolding truthsAfter
@@ -149,12 +123,12 @@ module _ (setup : Setup) (store other : List ℕ) (found : Record) (c : Call) (a
       let counts = same-counts rows (omega arith) in
       let first : Accepted setup store found c = accepted-of setup store found c e in
       let second : Accepted setup other found c = accepted-of setup other found c e′ in
-      let room : Room m rows = room-after m (first .ready) (first .sound) (first .risen) in
-      let room′ : Room m′ rows = room-after m′ (second .ready) (second .sound) (second .risen) in
+      let room : Room m rows = room-after m (first .ready) (first .sound) (first .early) (first .risen) in
+      let room′ : Room m′ rows = room-after m′ (second .ready) (second .sound) (second .early) (second .risen) in
       record {
         reply = rw (e, e′, truths);
         left = rw (e, e′, truths, counts);
-        needed = rw (e, e′) (needed-after m rows room ∙ same-done rows (omega arith) ∙ sym (needed-after m′ rows room′));
+        needed = rw (e, e′) (words-done m rows room ∙ same-done rows (omega arith) ∙ sym (words-done m′ rows room′));
         spare = rw e (words-left m rows room);
       }
 

@@ -20,7 +20,7 @@ use Rattle.monitor.specs.Record.{heldAt, stretchAt, nothingSeen}
 use Rattle.monitor.specs.Start.{startOf}
 use Rattle.promises.specs.Stream.{State, Starts, started}
 use Rattle.promises.specs.Spans.{NamedHolds}
-use Rattle.promises.specs.Invariant.{Spanned, Invariant}
+use Rattle.promises.proofs.Invariant.{Spanned, Invariant}
 use Rattle.promises.specs.Conditions.{Ready, RecordRight}
 use Rattle.promises.proofs.TableRefusals.{start-passes, start-decided}
 use Rattle.promises.proofs.StretchTold.{none-sound}

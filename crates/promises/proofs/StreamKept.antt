@@ -1,11 +1,11 @@
--- The one induction over a stream: the invariant holds after any list of calls, of the events kept and the clock.
+-- The induction over a stream behind the verdicts and the spans: the invariant holds after any list of calls, of the events kept and the clock.
 use mathlib.Core.List.{List, [], _∷_}
 use mathlib.Core.Path.{refl}
 use Prim.Native.Nat.{ℕ}
 use Rattle.meaning.specs.History.{History, lastTime}
 use Rattle.monitor.specs.Step.{Call}
 use Rattle.promises.specs.Stream.{State, Starts, started, after, kept, state, history, clock}
-use Rattle.promises.specs.Invariant.{Invariant}
+use Rattle.promises.proofs.Invariant.{Invariant}
 use Rattle.promises.proofs.StartRight.{start-right}
 use Rattle.promises.proofs.CallKept.{next-kept}
 
@@ -16,5 +16,8 @@ unfolding kept after
 calls-kept table h s [] inv = inv
 calls-kept table h s (c ∷ calls) inv = calls-kept table _ _ calls (next-kept table h s inv c _ refl)
 
-pub stream-kept : (table store : List ℕ) → Starts table store → (calls : List Call) → Invariant table (history calls) (clock calls) (state table store calls)
+pub stream-kept : (table store : List ℕ)
+    → Starts table store
+    → (calls : List Call)
+    → Invariant table (history calls) (clock calls) (state table store calls)
 stream-kept table store starts calls = calls-kept table [] (started table store) calls (start-right table store starts)

@@ -1,42 +1,46 @@
--- The test of a row's stretch tells document 01's conditions on it, in both directions, where table and store passed before it. A row that is no since
--- row has an empty stretch, which is right.
+-- The test of a row's stretch tells document 01's conditions on it, in both directions, where table and store passed before it. A row that is no
+-- since row has an empty stretch, which is right.
+use mathlib.Core.Bool.{false}
 use mathlib.Core.List.{List, []}
 use mathlib.Core.Logic.{_⊎_, inl, inr, ⊎-elim}
 use mathlib.Core.Path.{_≡_, refl}
 use Prim.Native.Nat.{ℕ, zero, suc, _+_, _≤_, _<_}
 use native.Mathlib.Omega.{arith}
-use lib.ListN.{length, getD, length-take, length-drop}
+use lib.ListN.{length, getD}
 use Rattle.meaning.specs.Interval.{End, upTo, noEnd, endOf, _+End_}
+use Rattle.meaning.specs.Spans.{Span}
 use Rattle.meaning.specs.Sound.{SoundFrom, SoundEndless, SoundSpans, lengthOf}
 use Rattle.meaning.specs.Figure.{figure}
 use Rattle.meaning.proofs.Tells.{Tells, tells-eqb, tells-same, tells-decided}
-use Rattle.rules.specs.Kinds.{kindAt}
-use Rattle.rules.specs.Rows.{rowsOf, numbersAt}
-use Rattle.rules.specs.Stretches.{spansOf, width, offset, needOf}
+use Rattle.rules.specs.Kinds.{rowX, rowY, stretch, kindAt, hasStretch}
+use Rattle.rules.specs.Rows.{rowsOf, numbersAt, ruleOf}
+use Rattle.rules.specs.Stretches.{spansOf, width}
 use Rattle.rules.specs.declared.numbers.Numbers.{Numbers}
 use Rattle.rules.proofs.PassedLaws.{InRange}
-use Rattle.rules.proofs.StretchesLaws.{stretch-before}
+use Rattle.rules.proofs.StretchesLaws.{spans-by-column, stretch-before}
 use Rattle.monitor.specs.declared.record.Record.{Record}
 use Rattle.spans.specs.Layout.{wordsOf, packed}
 use Rattle.monitor.specs.Record.{timeLimit, heldAt, stretchAt}
 use Rattle.monitor.specs.Soundness.{soundRow?}
-use Rattle.spans.proofs.SoundTold.{stretch-told}
-use Rattle.promises.specs.Conditions.{LimitsRight, Ready, IsSince, StretchRight}
+use Rattle.spans.proofs.LayoutLaws.{Stored}
+use Rattle.spans.proofs.SoundTold.{sound-stored, stretch-told}
+use Rattle.monitor.proofs.EventLaws.{length-stretch}
+use Rattle.promises.specs.Conditions.{LimitsRight, Ready, IsSince, RowSound, StretchRight}
 use Rattle.promises.proofs.RangeLaws.{latest-storable}
 
 -- "each since row owns its own stretch", and no other row.
 pub since-or-other : (n : Numbers) → IsSince n ⊎ (¬ IsSince n)
 since-or-other n = tells-decided (tells-eqb (n .kind) _)
 
-pub since-spans : (n : Numbers) → IsSince n → spansOf n ≡ figure (n .a) (endOf (n .b))
+pub since-rule : (n : Numbers) → IsSince n → ruleOf n ≡ stretch rowX rowY
 unfolding kindAt
-since-spans n since = rw since
+since-rule n since = rw since
 
-pub other-spans : (n : Numbers) → ¬ IsSince n → spansOf n ≡ 0
+pub other-rule : (n : Numbers) → ¬ IsSince n → hasStretch (ruleOf n) ≡ false
 unfolding kindAt
-other-spans n other = go (n .kind) refl
+other-rule n other = go (n .kind) refl
   where
-    go : (kind : ℕ) → n .kind ≡ kind → spansOf n ≡ 0
+    go : (kind : ℕ) → n .kind ≡ kind → hasStretch (ruleOf n) ≡ false
     go zero e = rw e
     go (suc zero) e = rw e
     go (suc (suc zero)) e = rw e
@@ -46,6 +50,12 @@ other-spans n other = go (n .kind) refl
     go (suc (suc (suc (suc (suc (suc zero)))))) e = absurd (other e)
     go (suc (suc (suc (suc (suc (suc (suc kind))))))) e = rw e
 
+pub since-spans : (n : Numbers) → IsSince n → spansOf n ≡ figure (n .a) (endOf (n .b))
+since-spans n since = rw (since-rule n since)
+
+pub other-spans : (n : Numbers) → ¬ IsSince n → spansOf n ≡ 0
+other-spans n other = rw (spans-by-column (ruleOf n) n, other-rule n other)
+
 pub in-range-of : {a b : ℕ} → LimitsRight a b → InRange a b
 in-range-of limits = record { least = limits .low; most = ⊎-elim inr inl (limits .high) }
 
@@ -54,13 +64,14 @@ unfolding SoundSpans SoundFrom SoundEndless
 none-sound now latestFirst (upTo latest) long = tt
 none-sound now latestFirst noEnd long = tt
 
+-- Sound spans can be stored.
+pub row-stored : (n : Numbers) (now : ℕ) (S : List Span) → now ≤ timeLimit → InRange (n .a) (n .b) → RowSound n now S → Stored S
+row-stored n now S within range sound =
+    sound-stored now (now + n .a) (now +End endOf (n .b)) (lengthOf (n .a) (endOf (n .b))) S (latest-storable now (n .a) (n .b) within range) sound
+
 module _ (table store : List ℕ) (ready : Ready table (length store)) (found : Record) where
   stretch-length : (row : ℕ) → row < rowsOf table → length (stretchAt table store row) ≡ width (numbersAt table row)
-  unfolding stretchAt
-  stretch-length row lower =
-      let within : offset table row + width (numbersAt table row) ≤ needOf table = stretch-before table row (rowsOf table) lower in
-      let room : needOf table ≤ length store = ready .room in
-      simp (length-take, length-drop) (omega arith)
+  stretch-length row lower = length-stretch table store row (omega (arith, stretch-before table row (rowsOf table) lower, ready .room))
 
   pub row-stretch-told : found .time ≤ timeLimit
       → (row : ℕ)

@@ -14,7 +14,7 @@ use Rattle.promises.proofs.Reading.{read-refused-exactly, place-moves}
 
 module _ (text : List ℕ) (place : ℕ) where
   said-end : length text ≤ place → readFrame text place .said ≡ end
-  said-end past = read-refused-exactly .ends text place .1 past
+  said-end past = read-refused-exactly .frame .ends text place .1 past
 
   stays : length text ≤ place → readFrame text place .next ≡ place
   stays past = place-moves text place .ended (said-end past)
@@ -27,7 +27,7 @@ module _ (text : List ℕ) (place : ℕ) where
   moves-on before = go (readFrame text place .said) refl
     where
       go : (said : Said) → readFrame text place .said ≡ said → place < readFrame text place .next
-      go end e = let past = read-refused-exactly .ends text place .0 e in absurd (omega arith)
+      go end e = let past = read-refused-exactly .frame .ends text place .0 e in absurd (omega arith)
       go (numbers given) e = let moved = place-moves text place .good given e in omega arith
       go (refusal fault) e = past-on (readFrame text place .next) before (place-moves text place .refused fault e)
 

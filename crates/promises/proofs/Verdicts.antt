@@ -11,10 +11,10 @@ use Rattle.meaning.proofs.NumberedLaws.{numbered-newest}
 use Rattle.rules.specs.Rows.{rowsOf}
 use Rattle.rules.specs.RowFormula.{formulaOf}
 use Rattle.monitor.specs.Record.{truthAt}
-use Rattle.monitor.specs.Step.{Call, verdict}
-use Rattle.promises.specs.Stream.{Starts, Keeps, eventOf, state, history, clock, outcome, longer, callTime, next}
+use Rattle.monitor.specs.Step.{Call, timeOf, verdict}
+use Rattle.promises.specs.Stream.{Starts, Keeps, eventOf, state, history, clock, outcome, longer, next}
 use Rattle.promises.specs.Verdicts.{Answered, TruthsAreMeaning, judgedFormula, VerdictIsMeaning}
-use Rattle.promises.specs.Invariant.{Invariant}
+use Rattle.promises.proofs.Invariant.{Invariant}
 use Rattle.promises.proofs.InvariantLaws.{passes}
 use Rattle.promises.proofs.CallKept.{kept-reply, late-reply, earlier-reply, call-kept, only-kept}
 use Rattle.promises.proofs.StreamKept.{stream-kept}
@@ -23,7 +23,7 @@ module _ (table store : List ℕ) (starts : Starts table store) (calls : List Ca
   before : Invariant table (history calls) (clock calls) (state table store calls)
   before = stream-kept table store starts calls
 
-  after : Keeps (clock calls) c → Invariant table (longer calls c) (callTime (clock calls) c) (next table (state table store calls) c)
+  after : Keeps (clock calls) c → Invariant table (longer calls c) (timeOf (clock calls) c) (next table (state table store calls) c)
   after keeps = call-kept before c keeps
 
   answered : Answered table store calls c
@@ -61,5 +61,5 @@ verdict-is-meaning table store starts calls c holds said =
     let numbers = numbered-newest (judgedFormula table) (eventOf (clock calls) c) (history calls) in
     record {
       holding = means;
-      numberedly = (λ yes. numbers .1 (means .0 yes), λ holding. means .1 (numbers .0 holding));
+      by-number = (λ yes. numbers .1 (means .0 yes), λ holding. means .1 (numbers .0 holding));
     }

@@ -1,4 +1,5 @@
--- The conditions of document 01's table of refusals, as propositions in its words, apart from the definitions that the contracts cite.
+-- The conditions of document 01's table of refusals, as propositions in its words, apart from the tests that the contracts cite (`rowPasses`,
+-- `limitsPass`, `sound?`).
 use mathlib.Core.Bool.{false}
 use mathlib.Core.List.{List}
 use mathlib.Core.Logic.{_⊎_}
@@ -52,17 +53,20 @@ pub record Ready (table : List ℕ) (size : ℕ) : Type 0 where
   pub right : TableRight table
   pub room : needOf table ≤ size
 
--- 7: "record not sound" is that this fails. "A record is sound when all of these hold".
+-- A since row is of kind 6.
 abbrev pub IsSince : Numbers → Type 0
 IsSince n = n .kind ≡ 6
 
 -- "in each stretch: first ≤ last; ..", with t the record's time; "unused words are 0".
+abbrev pub RowSound : Numbers → ℕ → List Span → Type 0
+RowSound n t S = SoundSpans t (t + n .a) (t +End endOf (n .b)) (lengthOf (n .a) (endOf (n .b))) S
+
 pub record StretchRight (table store : List ℕ) (found : Record) (row : ℕ) : Type 0 where
   pub spans : List Span
   pub laid : Laid (width (numbersAt table row)) (stretchAt table store row) (heldAt found row) spans
-  pub sound : SoundSpans (found .time) (found .time + numbersAt table row .a) (found .time +End endOf (numbersAt table row .b))
-      (lengthOf (numbersAt table row .a) (endOf (numbersAt table row .b))) spans
+  pub sound : RowSound (numbersAt table row) (found .time) spans
 
+-- 7: "record not sound" is that this fails. "A record is sound when all of these hold".
 pub record RecordRight (table store : List ℕ) (found : Record) : Type 0 where
   -- "its row count is the table's; truths past it are false;"
   pub rows : found .rows ≡ rowsOf table

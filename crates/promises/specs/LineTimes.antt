@@ -1,5 +1,5 @@
--- Demand 2, its second sentence: "Where only frames move the time, line times equal true times if these never fall, the first is below 65,536 ms and no
--- gap between accepted frames exceeds 65,535 ms." Over a text's frames, read by `readFrame` and judged from a good start.
+-- Demand 2, its second sentence: "Where only frames move the time, line times equal true times if these never fall, the first is below 65,536 ms and
+-- no gap between accepted frames exceeds 65,535 ms." Over the frames of good lines, judged from a good start.
 use mathlib.Core.Bool.{cond}
 use mathlib.Core.List.{List, [], _∷_, map}
 use mathlib.Core.Path.{_≡_}
@@ -13,7 +13,7 @@ use Rattle.monitor.specs.Record.{timeLimit}
 use Rattle.monitor.specs.Step.{Setup, Call, frame, Reply, refusal, stepOf}
 use Rattle.promises.specs.Stream.{State, call, next, Starts, started}
 use Rattle.promises.specs.AsIfNotMade.{judged}
-use Rattle.promises.specs.TextRead.{framesOf, countersOf}
+use Rattle.promises.specs.TextRead.{linesRead, goodLines, framesOf, countersOf}
 
 -- What each call is answered, and the record's time after it.
 unfoldable pub replies : List ℕ → State → List Call → List Reply
@@ -24,12 +24,12 @@ unfoldable pub recordTimes : List ℕ → State → List Call → List ℕ
 recordTimes table s [] = []
 recordTimes table s (c ∷ calls) = next table s c .found .time ∷ recordTimes table (next table s c) calls
 
--- The same of each good line of a text, from a start.
-abbrev pub lineReplies : List ℕ → List ℕ → List ℕ → List Reply
-lineReplies table store text = replies table (started table store) (framesOf text)
+-- The same of good lines, from a start.
+abbrev pub lineReplies : List ℕ → List ℕ → List (List ℕ) → List Reply
+lineReplies table store lines = replies table (started table store) (framesOf lines)
 
-abbrev pub lineTimes : List ℕ → List ℕ → List ℕ → List ℕ
-lineTimes table store text = recordTimes table (started table store) (framesOf text)
+abbrev pub lineTimes : List ℕ → List ℕ → List (List ℕ) → List ℕ
+lineTimes table store lines = recordTimes table (started table store) (framesOf lines)
 
 -- Every member of a list is so.
 abbrev pub Every : {A : Type 0} → (A → Type 0) → List A → Type 0
@@ -37,26 +37,34 @@ Every so [] = Unit
 Every so (member ∷ members) = so member × Every so members
 
 -- The times of those lines that were answered with a verdict.
-unfoldable pub accepted : List Reply → List ℕ → List ℕ
-accepted [] times = []
-accepted (reply ∷ replies) [] = []
-accepted (reply ∷ replies) (time ∷ times) = cond (judged reply) (time ∷ accepted replies times) (accepted replies times)
+unfoldable pub acceptedTimes : List Reply → List ℕ → List ℕ
+acceptedTimes [] times = []
+acceptedTimes (reply ∷ replies) [] = []
+acceptedTimes (reply ∷ replies) (time ∷ times) =
+    cond (judged reply) (time ∷ acceptedTimes replies times) (acceptedTimes replies times)
 
--- The good lines have the counters of true times; refused lines may stand between them.
 -- Where all true times are as the demand says, and within the limit, each line is answered with a verdict and the record's time is its true time.
 -- Where those of the accepted lines are as the demand says, and the others any at all, the record's time after each accepted line is its true time.
-pub record LinesTimed (table store text times : List ℕ) : Type 0 where
+pub record LinesTimed (table store : List ℕ) (lines : List (List ℕ)) (times : List ℕ) : Type 0 where
   pub all : TrueTimes times
       → Every (λ (time : ℕ). time ≤ timeLimit) times
-      → Every (λ (reply : Reply). T (judged reply)) (lineReplies table store text) × (lineTimes table store text ≡ times)
-  pub accepted-ones : TrueTimes (accepted (lineReplies table store text) times)
-      → accepted (lineReplies table store text) (lineTimes table store text) ≡ accepted (lineReplies table store text) times
+      → Every (λ (reply : Reply). T (judged reply)) (lineReplies table store lines) × (lineTimes table store lines ≡ times)
+  pub accepted-ones : TrueTimes (acceptedTimes (lineReplies table store lines) times)
+      → acceptedTimes (lineReplies table store lines) (lineTimes table store lines) ≡ acceptedTimes (lineReplies table store lines) times
 
+-- Good lines that have the counters of true times, wherever they are read. For the program's text see crate `text`.
 abbrev pub LineTimesAreTrue : Type 0
-LineTimesAreTrue = (table store text times : List ℕ)
+LineTimesAreTrue = (table store : List ℕ) (lines : List (List ℕ)) (times : List ℕ)
     → Starts table store
-    → countersOf text ≡ map counterOf times
-    → LinesTimed table store text times
+    → countersOf lines ≡ map counterOf times
+    → LinesTimed table store lines times
+
+-- The good lines of a text of frames, as a reader reads it: refused lines may stand between them.
+abbrev pub TextTimesAreTrue : Type 0
+TextTimesAreTrue = (table store text times : List ℕ)
+    → Starts table store
+    → countersOf (goodLines (linesRead text)) ≡ map counterOf times
+    → LinesTimed table store (goodLines (linesRead text)) times
 
 -- A frame's time is never below the last event's: no frame is refused 5, whatever it is judged with.
 abbrev pub FramesNeverEarlier : Type 0

@@ -45,15 +45,15 @@ pub data CallRefused (setup : Setup) (store : List ℕ) (found : Kept.Record) (c
       → CallRefused setup store found c (refused Record)
   six : Ready (setup .table) (length store)
       → RecordRight (setup .table) store found
-      → timeLimit < timeOf found c
+      → timeLimit < timeOf (found .time) c
       → CallRefused setup store found c (refused Late)
   five : Ready (setup .table) (length store)
       → RecordRight (setup .table) store found
-      → timeOf found c ≤ timeLimit
-      → timeOf found c < found .time
+      → timeOf (found .time) c ≤ timeLimit
+      → timeOf (found .time) c < found .time
       → CallRefused setup store found c (refused Earlier)
 
--- Refused with a number and values if and only if the table of refusals says so: for the check, a start, an event or a frame, and the time of a frame.
+-- Refused with a number and values if and only if the table of refusals says so: for the check, a start, an event or a frame, the time of a frame.
 pub record RefusedExactly : Type 0 where
   pub check : (table : List ℕ) (fault : Refused) → (checkOf table ≡ refusedBy fault) ↔ TableRefused table fault
   pub start : (table store : List ℕ) (fault : Refused) → (startOf table store .refusal ≡ some fault) ↔ StartRefused table (length store) fault

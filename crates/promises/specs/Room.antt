@@ -1,6 +1,6 @@
--- Demand 3, its room: "With it no event is refused for room, however long the stream." "No smaller figure serves: for any allowed a and b some table and
--- stream fill every span."
-use mathlib.Core.List.{List}
+-- Demand 3, its room: "With it no event is refused for room, however long the stream." "No smaller figure serves: for any allowed a and b some table
+-- and stream fill every span."
+use mathlib.Core.List.{List, map}
 use mathlib.Core.Path.{_≡_}
 use Prim.Native.Nat.{ℕ, _≤_, _<_}
 use lib.ListN.{length, getD}
@@ -9,14 +9,14 @@ use Rattle.meaning.specs.Formula.{truth, bit, Holds}
 use Rattle.meaning.specs.Spans.{Span}
 use Rattle.meaning.specs.Runs.{Runs}
 use Rattle.meaning.specs.Figure.{figure}
-use Rattle.rules.specs.Kinds.{Source, rowX, rowY, stretch}
+use Rattle.rules.specs.Kinds.{Source, stretch}
 use Rattle.rules.specs.Refusals.{refused}
 use Rattle.rules.specs.Rows.{rowsOf, numbersAt, ruleOf}
 use Rattle.rules.specs.Stretches.{spansOf, needOf}
 use Rattle.rules.specs.declared.refusal.Refusal.the-variants.{Store, Record}
-use Rattle.monitor.specs.Step.{Call, refusal}
+use Rattle.monitor.specs.Step.{Call, event, refusal}
 use Rattle.promises.specs.Stream.{Starts, state, history, clock, outcome}
-use Rattle.promises.specs.Conditions.{LimitsRight}
+use Rattle.promises.specs.Conditions.{LimitsRight, IsSince}
 use Rattle.promises.specs.Spans.{RowRuns}
 
 -- No call of a stream answers 4 or 7; and the runs, whatever room there is, are at most the figure.
@@ -32,31 +32,36 @@ pub record NeverShort (table store : List ℕ) (calls : List Call) : Type 0 wher
 abbrev pub NeverShortOfRoom : Type 0
 NeverShortOfRoom = (table store : List ℕ) → Starts table store → (calls : List Call) → NeverShort table store calls
 
+-- Events at these times, each with bit 0 and no other.
+abbrev pub pulsesAt : List ℕ → List Call
+pulsesAt times = map (λ (time : ℕ). event time 1) times
+
 -- Every call of the list is kept.
 abbrev pub AllKept : List Call → Type 0
 AllKept calls = length (history calls) ≡ length calls
 
--- A table with a since row of exactly these limits, and a stream, all kept, on a store of exactly the need, after which the row's count is the figure.
+-- A table with a since row of exactly these limits, and a stream, all kept, after which the row's count is the figure, whatever the words of a store
+-- of exactly the need.
 pub record Filled (a b : ℕ) : Type 0 where
   pub table : List ℕ
   pub row : ℕ
   pub inside : row < rowsOf table
-  pub since : ruleOf (numbersAt table row) ≡ stretch rowX rowY
+  pub since : IsSince (numbersAt table row)
   pub from : numbersAt table row .a ≡ a
   pub to : numbersAt table row .b ≡ b
-  pub store : List ℕ
-  pub exactly : length store ≡ needOf table
-  pub starts : Starts table store
-  pub calls : List Call
-  pub kept : AllKept calls
-  pub full : getD (state table store calls .found .counts) row 0 ≡ figure a (endOf b)
+  pub times : List ℕ
+  pub kept : AllKept (pulsesAt times)
+  pub starts : (store : List ℕ) → length store ≡ needOf table → Starts table store
+  pub full : (store : List ℕ)
+      → length store ≡ needOf table
+      → getD (state table store (pulsesAt times) .found .counts) row 0 ≡ figure a (endOf b)
 
 -- The same of the runs alone, so that no other layout does with fewer.
 pub record RunsFill (a b : ℕ) : Type 0 where
-  pub calls : List Call
-  pub kept : AllKept calls
+  pub times : List ℕ
+  pub kept : AllKept (pulsesAt times)
   pub spans : List Span
-  pub runs : Runs (Holds truth) (Holds (bit 0)) a (endOf b) (history calls) (clock calls) spans
+  pub runs : Runs (Holds truth) (Holds (bit 0)) a (endOf b) (history (pulsesAt times)) (clock (pulsesAt times)) spans
   pub many : length spans ≡ figure a (endOf b)
 
 abbrev pub FigureIsReached : Type 0

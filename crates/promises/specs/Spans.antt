@@ -1,5 +1,5 @@
--- Demand 3, its runs: "After each event a row's spans are exactly the unbroken runs of present or future milliseconds its past events reach, rising, a
--- gap between each two."
+-- Demand 3, its runs: "After each event a row's spans are exactly the unbroken runs of present or future milliseconds its past events reach, rising,
+-- a gap between each two."
 use mathlib.Core.List.{List}
 use mathlib.Core.Logic.{_↔_}
 use mathlib.Core.Path.{_≡_}
@@ -28,9 +28,9 @@ abbrev pub RowRuns : List ℕ → ℕ → Source → Source → History → ℕ 
 RowRuns table row keep feed =
     Runs (NamedHolds table row keep) (NamedHolds table row feed) (numbersAt table row .a) (endOf (numbersAt table row .b))
 
--- At the record's time, which is the clock, the words of the row's stretch lay out the runs, its other words are 0, its count is their number, and its
--- truth says whether the time lies in them.
-pub record Runned (table : List ℕ) (row : ℕ) (keep feed : Source) (h : History) (clock : ℕ) (s : State) : Type 0 where
+-- At the record's time, which is the clock, the words of the row's stretch lay out the runs, its other words are 0, its count is their number, and
+-- its truth says whether the time lies in them.
+pub record HoldsRuns (table : List ℕ) (row : ℕ) (keep feed : Source) (h : History) (clock : ℕ) (s : State) : Type 0 where
   pub timed : s .found .time ≡ clock
   pub spans : List Span
   pub runs : RowRuns table row keep feed h clock spans
@@ -44,4 +44,4 @@ SpansAreTheRuns = (table store : List ℕ)
     → (calls : List Call) (row : ℕ) (keep feed : Source)
     → row < rowsOf table
     → ruleOf (numbersAt table row) ≡ stretch keep feed
-    → Runned table row keep feed (history calls) (clock calls) (state table store calls)
+    → HoldsRuns table row keep feed (history calls) (clock calls) (state table store calls)

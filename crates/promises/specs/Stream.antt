@@ -1,25 +1,21 @@
 -- A stream: any list of calls, of any length, with any times, counters and masks, from a good start on a table that passes and a store of any
 -- contents with at least the need. And which of its calls are kept, by their times alone.
 use mathlib.Core.Bool.{Bool, cond, _&&_}
-use mathlib.Core.List.{List, [], _∷_}
+use mathlib.Core.List.{List, [], _∷_, _++_}
 use mathlib.Core.Option.{none}
 use mathlib.Core.Path.{_≡_}
 use Prim.Native.Nat.{ℕ, _≤_}
 use lib.Dec.{leb}
-use Rattle.meaning.specs.FrameTime.{frameTime}
 use Rattle.meaning.specs.History.{Event, History, lastTime}
 use Rattle.monitor.specs.declared.record.Record.{Record}
 use Rattle.monitor.specs.Record.{timeLimit}
 use Rattle.monitor.specs.Start.{startOf}
-use Rattle.monitor.specs.Step.{Setup, Call, event, frame, maskOf, Outcome, stepOf}
+use Rattle.monitor.specs.Step.{setupOf, Call, timeOf, maskOf, Outcome, stepOf}
 
 -- What the monitor works on between two calls.
 pub record State : Type 0 where
   pub found : Record
   pub store : List ℕ
-
-abbrev pub setupOf : List ℕ → Setup
-setupOf table = record { table = table }
 
 -- One call of the stream, and what it leaves.
 abbrev pub call : List ℕ → State → Call → Outcome
@@ -40,21 +36,16 @@ Starts table store = startOf table store .refusal ≡ none
 abbrev pub started : List ℕ → List ℕ → State
 started table store = record { found = startOf table store .given; store = startOf table store .store }
 
--- The time of a call, where the last kept event was at `last` (0 before any).
-abbrev pub callTime : ℕ → Call → ℕ
-callTime last (event time mask) = time
-callTime last (frame counter mask) = frameTime last counter
-
 -- A call is kept when its time is at most the limit and not below the last kept event's.
 pub record Keeps (last : ℕ) (c : Call) : Type 0 where
-  pub within : callTime last c ≤ timeLimit
-  pub risen : last ≤ callTime last c
+  pub within : timeOf last c ≤ timeLimit
+  pub risen : last ≤ timeOf last c
 
 abbrev pub keeps? : ℕ → Call → Bool
-keeps? last c = leb (callTime last c) timeLimit && leb last (callTime last c)
+keeps? last c = leb (timeOf last c) timeLimit && leb last (timeOf last c)
 
 abbrev pub eventOf : ℕ → Call → Event
-eventOf last c = record { time = callTime last c; mask = maskOf c }
+eventOf last c = record { time = timeOf last c; mask = maskOf c }
 
 -- The kept events of a list of calls, the newest first, after those of a history.
 unfoldable pub kept : History → List Call → History
@@ -77,3 +68,9 @@ outcome table store calls c = call table (state table store calls) c
 
 abbrev pub longer : List Call → Call → History
 longer calls c = eventOf (clock calls) c ∷ history calls
+
+-- So it is: the state after the list with this call at its end is what the call leaves, and the history of that list is the longer one or the same.
+pub record OneMore (table store : List ℕ) (calls : List Call) (c : Call) : Type 0 where
+  pub left : state table store (calls ++ (c ∷ [])) ≡ next table (state table store calls) c
+  pub kept : Keeps (clock calls) c → history (calls ++ (c ∷ [])) ≡ longer calls c
+  pub other : ¬ Keeps (clock calls) c → history (calls ++ (c ∷ [])) ≡ history calls

@@ -1,8 +1,8 @@
--- Demand 1 for text: "a refused call changes nothing ..: the stream goes on as if it hadn't been made." A refused line (8, 9), and a line whose frame is
--- refused, change nothing but the place. For every list of readings, each of any text at any place, its frame judged with any table and any length of the
--- store, from any record and any words.
-use mathlib.Core.Bool.{Bool, true, false, cond}
-use mathlib.Core.List.{List, [], _∷_}
+-- Demand 1 for text: "a refused call changes nothing ..: the stream goes on as if it hadn't been made." A refused line (8, 9), and a line whose frame
+-- is refused, change nothing but the place. For every list of readings, each of any text at any place, its frame judged with any table and any length
+-- of the store, from any record and any words.
+use mathlib.Core.Bool.{Bool, true, false}
+use mathlib.Core.List.{List}
 use mathlib.Core.Path.{_≡_}
 use Prim.Native.Nat.{ℕ, _+_}
 use Rattle.rules.specs.Refusals.{Refused}
@@ -11,6 +11,7 @@ use Rattle.lines.specs.Read as line
 use Rattle.lines.specs.Read.{Said, Read}
 use Rattle.lines.specs.Frame.{readFrame}
 use Rattle.promises.specs.Stream.{State}
+use Rattle.promises.specs.LeftOut.{Machine, Unchanged}
 use Rattle.promises.specs.AsIfNotMade.{Attempt, attempt, leaves, judged}
 use Rattle.promises.specs.Reading.{Past, frameBytes}
 use Rattle.promises.specs.TextRead.{frameIn}
@@ -54,27 +55,8 @@ abbrev pub unrefused : Answer → Bool
 unrefused ended = true
 unrefused (replied reply) = judged reply
 
--- The answers to the readings in turn, the state after them, and those of them that were not refused, with their answers.
-unfoldable pub answers : State → List Reading → List Answer
-answers s [] = []
-answers s (r ∷ more) = answer s r ∷ answers (left s r) more
-
-unfoldable pub endState : State → List Reading → State
-endState s [] = s
-endState s (r ∷ more) = endState (left s r) more
-
-unfoldable pub others : State → List Reading → List Reading
-others s [] = []
-others s (r ∷ more) = cond (unrefused (answer s r)) (r ∷ others (left s r) more) (others (left s r) more)
-
-unfoldable pub otherAnswers : List Answer → List Answer
-otherAnswers [] = []
-otherAnswers (given ∷ more) = cond (unrefused given) (given ∷ otherAnswers more) (otherAnswers more)
-
--- Leaving out those that are refused, the others at their places, leaves every other answer, the record and every word the same.
-pub record Unchanged (s : State) (readings : List Reading) : Type 0 where
-  pub same-answers : answers s (others s readings) ≡ otherAnswers (answers s readings)
-  pub same-state : endState s (others s readings) ≡ endState s readings
+abbrev pub readings : Machine State Reading Answer
+readings = record { answer = answer; left = left; unrefused = unrefused }
 
 -- A refused line is answered with its number, moves the place past its first line feed or to the end, and does nothing else.
 pub record LineNotMade (s : State) (r : Reading) (fault : Refused) : Type 0 where
@@ -93,4 +75,5 @@ pub record TextAsIfNotMade : Type 0 where
       → read r .said ≡ line.numbers given
       → unrefused (answer s r) ≡ false
       → FrameNotMade s r
-  pub stream : (s : State) (readings : List Reading) → Unchanged s readings
+  -- Leaving out those that are refused, the others at their places, leaves every other answer, the record and every word the same.
+  pub stream : (s : State) (made : List Reading) → Unchanged readings s made

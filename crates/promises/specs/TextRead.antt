@@ -43,9 +43,9 @@ counterIn given = getD given 0 0
 abbrev pub frameIn : List ℕ → Call
 frameIn given = frame (counterIn given) (getD given 1 0)
 
--- The calls that a text makes: a frame for each good line. A refused line makes none.
-abbrev pub framesOf : List ℕ → List Call
-framesOf text = map frameIn (goodLines (linesRead text))
+-- The calls that good lines make, a frame each, and their counters. A refused line makes no call.
+abbrev pub framesOf : List (List ℕ) → List Call
+framesOf lines = map frameIn lines
 
-abbrev pub countersOf : List ℕ → List ℕ
-countersOf text = map counterIn (goodLines (linesRead text))
+abbrev pub countersOf : List (List ℕ) → List ℕ
+countersOf lines = map counterIn lines

@@ -14,16 +14,16 @@ use Rattle.rules.specs.Rows.{rowsOf}
 use Rattle.rules.specs.RowFormula.{formulaOf}
 use Rattle.rules.specs.declared.refusal.Refusal.the-variants.{Earlier, Late}
 use Rattle.monitor.specs.Record.{timeLimit, truthAt}
-use Rattle.monitor.specs.Step.{Call, verdict, refusal}
-use Rattle.promises.specs.Stream.{Starts, callTime, Keeps, history, clock, outcome, longer}
+use Rattle.monitor.specs.Step.{Call, timeOf, verdict, refusal}
+use Rattle.promises.specs.Stream.{Starts, Keeps, history, clock, outcome, longer}
 
 -- After any stream, one call more. It is answered with a verdict if and only if it is kept, otherwise with 6 over the limit, and else with 5.
 pub record Answered (table store : List ℕ) (calls : List Call) (c : Call) : Type 0 where
   pub judged : Keeps (clock calls) c → (holds : Bool) × (outcome table store calls c .reply ≡ verdict holds)
   pub only : (holds : Bool) → outcome table store calls c .reply ≡ verdict holds → Keeps (clock calls) c
-  pub late : timeLimit < callTime (clock calls) c → outcome table store calls c .reply ≡ refusal (refused Late)
-  pub earlier : callTime (clock calls) c ≤ timeLimit
-      → callTime (clock calls) c < clock calls
+  pub late : timeLimit < timeOf (clock calls) c → outcome table store calls c .reply ≡ refusal (refused Late)
+  pub earlier : timeOf (clock calls) c ≤ timeLimit
+      → timeOf (clock calls) c < clock calls
       → outcome table store calls c .reply ≡ refusal (refused Earlier)
 
 -- After a kept call every row's truth is yes exactly when its formula holds over the kept events.
@@ -41,11 +41,11 @@ TruthsAreMeaning = (table store : List ℕ) → Starts table store → (calls : 
 abbrev pub judgedFormula : List ℕ → Formula
 judgedFormula table = formulaOf table (rowsOf table - 1)
 
--- The verdict is yes exactly when the formula judged holds: over the kept events, and in the words of document 01's table, at the event whose number is
--- that of the events kept before, counted from 0.
+-- The verdict is yes exactly when the formula judged holds: over the kept events, and in the words of document 01's table, at the event whose number
+-- is that of the events kept before, counted from 0.
 pub record Meant (table store : List ℕ) (calls : List Call) (c : Call) (holds : Bool) : Type 0 where
   pub holding : T holds ↔ Holds (judgedFormula table) (longer calls c)
-  pub numberedly : T holds ↔ HoldsAt (numbered (longer calls c)) (judgedFormula table) (length (history calls))
+  pub by-number : T holds ↔ HoldsAt (numbered (longer calls c)) (judgedFormula table) (length (history calls))
 
 abbrev pub VerdictIsMeaning : Type 0
 VerdictIsMeaning = (table store : List ℕ)

@@ -4,4 +4,5 @@ pub mod HeldLaws
 pub mod OwedLaws
 pub mod Cutting
 pub mod Meaning
+pub mod LineTimes
 pub mod WholeCase

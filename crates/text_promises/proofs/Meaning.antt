@@ -6,32 +6,31 @@ use Prim.Native.Nat.{ℕ}
 use borrow.Author.Tests.{eq-eqb, ne-eqb, lt-leb}
 use Rattle.rules.specs.Limits.{rowLimit}
 use Rattle.rules.specs.Rows.{rowsOf}
+use Rattle.rules.specs.Stretches.{needOf}
 use Rattle.lines.specs.Digits.{byteAt}
 use Rattle.lines.specs.Line.{lineFeed}
 use Rattle.lines.specs.Read.{Said, end, numbers, refusal}
 use Rattle.lines.specs.Frame.{readFrame}
-use Rattle.monitor.specs.Step.{Call}
-use Rattle.promises.specs.Stream.{State, Starts, next, after, callTime, state, started, clock, outcome}
+use Rattle.monitor.specs.Step.{Call, timeOf}
+use Rattle.promises.specs.Stream.{Starts, after, state, clock, outcome}
+use Rattle.promises.proofs.StreamLaws.{one-more}
 use Rattle.promises.proofs.CallKept.{call-kept}
 use Rattle.promises.proofs.StreamKept.{stream-kept}
 use Rattle.promises.proofs.Verdicts.{truths-are-meaning, verdict-is-meaning}
 use Rattle.text.specs.Lines.{linesOf}
+use Rattle.text.specs.Replies.{needLine}
 use Rattle.text.specs.Transcript.{emptyStore, Running, frameOf, replyOf, frameReply, frameLeaves, framesFrom, tableThen, rulesFrom, transcript}
 use Rattle.text_promises.specs.Meaning.{FrameMeant, LineMeant, callsAfter, Meant, RulesThen, emptyLine, ruleLine, TranscriptTellsTheMeaning}
 
 -- What the monitor has after the calls so far.
-abbrev runningAfter : List ℕ → List Call → Running
+abbrev pub runningAfter : List ℕ → List Call → Running
 runningAfter table calls =
     record { table = table; found = state table emptyStore calls .found; store = state table emptyStore calls .store }
 
-after-more : (table : List ℕ) (s : State) (calls : List Call) (c : Call) → after table s (calls ++ (c ∷ [])) ≡ next table (after table s calls) c
-unfolding after
-after-more table s [] c = refl
-after-more table s (first ∷ calls) c = after-more table (next table s first) calls c
-
-leaves-more : (table : List ℕ) (calls : List Call) (said : Said) → frameLeaves (runningAfter table calls) said ≡ runningAfter table (callsAfter calls said)
+leaves-more : (table : List ℕ) (calls : List Call) (said : Said)
+    → frameLeaves (runningAfter table calls) said ≡ runningAfter table (callsAfter calls said)
 leaves-more table calls end = refl
-leaves-more table calls (numbers given) = rw (after-more table (started table emptyStore) calls (frameOf given))
+leaves-more table calls (numbers given) = rw (one-more table emptyStore calls (frameOf given) .left)
 leaves-more table calls (refusal fault) = refl
 
 frame-meant : (table : List ℕ) (calls : List Call) (c : Call) → Starts table emptyStore
@@ -41,17 +40,23 @@ frame-meant table calls c starts =
     record {
       kept = λ keeps.
           let told = answered .judged keeps in
-          let time : outcome table emptyStore calls c .left .time ≡ callTime (clock calls) c = call-kept (stream-kept table emptyStore starts calls) c keeps .time in
+          let time : outcome table emptyStore calls c .left .time ≡ timeOf (clock calls) c =
+          call-kept (stream-kept table emptyStore starts calls) c keeps .time
+          in
           (told .0, rw (told .1, time), verdict-is-meaning table emptyStore starts calls c (told .0) (told .1) .holding);
       late = λ over. ap (replyOf (outcome table emptyStore calls c .left .time)) (answered .late over);
     }
 
-line-meant : (table : List ℕ) (calls : List Call) (said : Said) → Starts table emptyStore → LineMeant table calls said (frameReply (runningAfter table calls) said)
+line-meant : (table : List ℕ) (calls : List Call) (said : Said)
+    → Starts table emptyStore
+    → LineMeant table calls said (frameReply (runningAfter table calls) said)
 line-meant table calls end starts = refl
 line-meant table calls (numbers given) starts = frame-meant table calls (frameOf given) starts
 line-meant table calls (refusal fault) starts = refl
 
-frames-meant : (table : List ℕ) (calls : List Call) (lines : List (List ℕ)) → Starts table emptyStore → Meant table calls lines (framesFrom (runningAfter table calls) lines)
+frames-meant : (table : List ℕ) (calls : List Call) (lines : List (List ℕ))
+    → Starts table emptyStore
+    → Meant table calls lines (framesFrom (runningAfter table calls) lines)
 unfolding Meant framesFrom
 frames-meant table calls [] starts = refl
 frames-meant table calls (line ∷ lines) starts =
@@ -72,7 +77,14 @@ rules-then table _ _ _ (emptyLine {line = line} feed) = rw (eq-eqb (byteAt line 
 rules-then table _ whole rest (ruleLine {line = line} {given = given} {lines = lines} other few said more) =
     rw (ne-eqb (byteAt line 0) lineFeed other, lt-leb rowLimit (rowsOf table) few, said) (rules-then (table ++ given) lines whole rest more)
 
-pub transcript-tells-the-meaning : TranscriptTellsTheMeaning
+-- What is written after them: the need, and the frames' replies from the start.
+pub frames-follow : (text table : List ℕ) (lines : List (List ℕ))
+    → RulesThen [] (linesOf text) table lines
+    → Starts table emptyStore
+    → transcript text ≡ needLine (needOf table) ++ framesFrom (runningAfter table []) lines
 unfolding tableThen transcript after
+frames-follow text table lines rules starts = rules-then [] (linesOf text) table lines rules ∙ rw starts
+
+pub transcript-tells-the-meaning : TranscriptTellsTheMeaning
 transcript-tells-the-meaning text table lines rules starts =
-    (framesFrom (runningAfter table []) lines, rules-then [] (linesOf text) table lines rules ∙ rw starts, frames-meant table [] lines starts)
+    (framesFrom (runningAfter table []) lines, frames-follow text table lines rules starts, frames-meant table [] lines starts)

@@ -2,4 +2,5 @@
 pub mod Places
 pub mod Cutting
 pub mod Meaning
+pub mod LineTimes
 pub mod WholeCase

@@ -18,8 +18,8 @@ use Rattle.lines.specs.Read.{Said, end, numbers, refusal}
 use Rattle.lines.specs.Frame.{readFrame}
 use Rattle.lines.specs.Rule.{readRule}
 use Rattle.monitor.specs.Record.{timeLimit}
-use Rattle.monitor.specs.Step.{Call}
-use Rattle.promises.specs.Stream.{Starts, callTime, Keeps, clock, longer}
+use Rattle.monitor.specs.Step.{Call, timeOf}
+use Rattle.promises.specs.Stream.{Starts, Keeps, clock, longer}
 use Rattle.promises.specs.Verdicts.{judgedFormula}
 use Rattle.text.specs.Replies.{needLine, verdictLine, refusedLine}
 use Rattle.text.specs.Lines.{linesOf}
@@ -28,8 +28,8 @@ use Rattle.text.specs.Transcript.{emptyStore, frameOf, transcript}
 -- A good line's reply: the frame's time and the verdict where the frame is kept; 6 where its time is over the limit.
 pub record FrameMeant (table : List ℕ) (calls : List Call) (c : Call) (reply : List ℕ) : Type 0 where
   pub kept : Keeps (clock calls) c
-      → (holds : Bool) × (reply ≡ verdictLine (callTime (clock calls) c) holds) × (T holds ↔ Holds (judgedFormula table) (longer calls c))
-  pub late : timeLimit < callTime (clock calls) c → reply ≡ refusedLine (refused Late)
+      → (holds : Bool) × (reply ≡ verdictLine (timeOf (clock calls) c) holds) × (T holds ↔ Holds (judgedFormula table) (longer calls c))
+  pub late : timeLimit < timeOf (clock calls) c → reply ≡ refusedLine (refused Late)
 
 -- The reply to a line, by what is read of it. A line that is refused is no call.
 abbrev pub LineMeant : List ℕ → List Call → Said → List ℕ → Type 0

@@ -1,15 +1,12 @@
--- What else holds of every call: words past the need, and soundness.
-use mathlib.Core.Bool.{Bool}
+-- "Words past the need are never written, and no reply, record or other word depends on them": of every call, and of a start.
 use mathlib.Core.List.{List}
 use mathlib.Core.Path.{_≡_}
 use Prim.Native.Nat.{ℕ, _≤_}
 use lib.ListN.{length, take, drop}
-use Rattle.rules.specs.Limits.{rowLimit}
 use Rattle.rules.specs.Stretches.{needOf}
 use Rattle.monitor.specs.declared.record.Record.{Record}
 use Rattle.monitor.specs.Start.{startOf}
-use Rattle.monitor.specs.Step.{Setup, Call, verdict, stepOf}
-use Rattle.promises.specs.Conditions.{RecordRight}
+use Rattle.monitor.specs.Step.{Setup, Call, stepOf}
 
 -- Two stores with room for the need and the same words in it.
 pub record SameNeeded (table store other : List ℕ) : Type 0 where
@@ -17,8 +14,7 @@ pub record SameNeeded (table store other : List ℕ) : Type 0 where
   pub other-room : needOf table ≤ length other
   pub words : take (needOf table) store ≡ take (needOf table) other
 
--- "Words past the need are never written, and no reply, record or other word depends on them": of two stores, of possibly different lengths, that
--- agree in the need.
+-- A call with two stores, of possibly different lengths, that agree in the need.
 pub record Alike (setup : Setup) (store other : List ℕ) (found : Record) (c : Call) : Type 0 where
   pub reply : stepOf setup store found c .reply ≡ stepOf setup other found c .reply
   pub left : stepOf setup store found c .left ≡ stepOf setup other found c .left
@@ -37,21 +33,3 @@ pub record SpareWords : Type 0 where
       → SameNeeded (setup .table) store other
       → Alike setup store other found c
   pub start : (table store other : List ℕ) → SameNeeded table store other → BegunAlike table store other
-
--- The record has an entry for each of the rows that a table may have, as its arrays in code always do.
-pub record Sized (found : Record) : Type 0 where
-  pub truths : length (found .truths) ≡ rowLimit
-  pub counts : length (found .counts) ≡ rowLimit
-
--- What a call leaves is sound, and has the sizes that it had, so that the same can be said of the next call.
-pub record StaysSound (setup : Setup) (store : List ℕ) (found : Record) (c : Call) : Type 0 where
-  pub sound : RecordRight (setup .table) (stepOf setup store found c .store) (stepOf setup store found c .left)
-  pub sized : Sized (stepOf setup store found c .left)
-  pub size : length (stepOf setup store found c .store) ≡ length store
-
--- An accepted call leaves a sound record, also from one that was sound but never reached.
-abbrev pub SoundIsKept : Type 0
-SoundIsKept = (setup : Setup) (store : List ℕ) (found : Record) (c : Call) (holds : Bool)
-    → Sized found
-    → stepOf setup store found c .reply ≡ verdict holds
-    → StaysSound setup store found c

@@ -1,5 +1,5 @@
--- What holds of a stream between any two of its calls: one invariant over the table, the kept events, the clock and the monitor's state. It holds after a
--- start and every call keeps it; demands 2 and 3 are read off it.
+-- What holds of a stream between any two of its calls: one invariant over the table, the kept events, the clock and the monitor's state. It holds
+-- after a start and every call keeps it; demands 2 and 3 are read off it.
 use mathlib.Core.Bool.{Bool, true, false}
 use mathlib.Core.List.{List, [], _∷_}
 use mathlib.Core.Logic.{_↔_}
@@ -19,7 +19,7 @@ use Rattle.spans.specs.Layout.{Laid}
 use Rattle.monitor.specs.Record.{truthAt, heldAt, stretchAt}
 use Rattle.promises.specs.Stream.{State}
 use Rattle.promises.specs.Conditions.{Ready, RecordRight}
-use Rattle.promises.specs.Words.{Sized}
+use Rattle.promises.specs.SoundIsKept.{Sized}
 use Rattle.promises.specs.Spans.{RowRuns}
 
 -- "Before the first event there is nothing".

@@ -1,0 +1,25 @@
+-- The need is the sum over the since rows: row by row, by what the table of kinds says of kind 6 and of the others.
+use mathlib.Core.List.{List}
+use mathlib.Core.Logic.{⊎-elim}
+use Prim.Native.Nat.{ℕ, zero, suc}
+use native.Mathlib.Nat.{add-zero}
+use Rattle.rules.specs.Rows.{rowsOf, numbersAt}
+use Rattle.rules.specs.Stretches.{offset}
+use Rattle.promises.specs.Need.{Needs, none, since, other, NeedFollows}
+use Rattle.promises.proofs.StretchTold.{since-or-other, since-rule, other-rule, since-spans, other-spans}
+
+needs : (table : List ℕ) (n : ℕ) → Needs table n (offset table n)
+unfolding offset
+needs table zero = none
+needs table (suc n) =
+    ⊎-elim
+    (λ is-since. rw (since-spans (numbersAt table n) is-since) (since (needs table n) is-since))
+    (λ is-other. rw (other-spans (numbersAt table n) is-other, add-zero) (other (needs table n) is-other))
+    (since-or-other (numbersAt table n))
+
+pub need-follows : NeedFollows
+need-follows =
+    record {
+      row = λ n. record { since = since-rule n; other = other-rule n };
+      table = λ table. needs table (rowsOf table);
+    }

@@ -1,0 +1,28 @@
+-- A call that is accepted leaves a sound record, also from one that was sound but never reached.
+use mathlib.Core.Bool.{Bool}
+use mathlib.Core.List.{List}
+use mathlib.Core.Path.{_≡_}
+use Prim.Native.Nat.{ℕ}
+use lib.ListN.{length}
+use Rattle.rules.specs.Limits.{rowLimit}
+use Rattle.monitor.specs.declared.record.Record.{Record}
+use Rattle.monitor.specs.Step.{Setup, Call, verdict, stepOf}
+use Rattle.promises.specs.Conditions.{RecordRight}
+
+-- The record has an entry for each of the rows that a table may have, as its arrays in code always do.
+pub record Sized (found : Record) : Type 0 where
+  pub truths : length (found .truths) ≡ rowLimit
+  pub counts : length (found .counts) ≡ rowLimit
+
+-- What a call leaves is sound, and has the sizes that it had, so that the same can be said of the next call.
+pub record StaysSound (setup : Setup) (store : List ℕ) (found : Record) (c : Call) : Type 0 where
+  pub sound : RecordRight (setup .table) (stepOf setup store found c .store) (stepOf setup store found c .left)
+  pub sized : Sized (stepOf setup store found c .left)
+  pub size : length (stepOf setup store found c .store) ≡ length store
+
+-- From any record that the call is accepted with: it is then sound, whether or not a stream reaches it.
+abbrev pub SoundIsKept : Type 0
+SoundIsKept = (setup : Setup) (store : List ℕ) (found : Record) (c : Call) (holds : Bool)
+    → Sized found
+    → stepOf setup store found c .reply ≡ verdict holds
+    → StaysSound setup store found c
