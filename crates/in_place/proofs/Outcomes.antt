@@ -13,7 +13,6 @@ use Rattle.in_place.specs.Code.{codeOf}
 use Rattle.in_place.specs.Run.{Ran, ran}
 use Rattle.in_place.specs.declared.call.Call.{Call}
 
-
 -- `in_place::kept::call_in`: the answer, the record and the store.
 pub one-call-in : (setup : Setup) (store : List ℕ) (found : Record) (call : Call) (p q : Answer) (kept kept′ : Record) (words words′ : List ℕ)
     → saidIn p kept words ≡ stepOf setup store found (callOf call) → saidIn q kept′ words′ ≡ stepOf setup store found (callOf call)

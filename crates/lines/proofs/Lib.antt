@@ -4,6 +4,7 @@ pub mod DigitLaws
 pub mod OverLaws
 pub mod WriteLaws
 pub mod LineLaws
+pub mod LinesLaws
 pub mod ReadLaws
 pub mod AgreeLaws
 pub mod Outcomes

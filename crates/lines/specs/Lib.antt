@@ -1,6 +1,7 @@
 -- What a reader must believe of lines, in the order in which to read it.
 pub mod Digits
 pub mod Line
+pub mod Lines
 pub mod Read
 pub mod Frame
 pub mod Rule

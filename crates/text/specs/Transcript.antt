@@ -12,6 +12,7 @@ use Rattle.rules.specs.Stretches.{needOf}
 use Rattle.rules.specs.declared.refusal.Refusal.the-variants.{Length, Line}
 use Rattle.lines.specs.Digits.{byteAt}
 use Rattle.lines.specs.Line.{lineFeed}
+use Rattle.lines.specs.Lines.{linesOf}
 use Rattle.lines.specs.Read.{Said, end, numbers}
 use Rattle.lines.specs.Read as read
 use Rattle.lines.specs.Frame.{readFrame}
@@ -19,7 +20,6 @@ use Rattle.lines.specs.Rule.{readRule}
 use Rattle.monitor.specs.declared.record.Record.{Record}
 use Rattle.monitor.specs.Start.{Beginning, startOf}
 use Rattle.monitor.specs.Step.{Call, frame, Reply, verdict, refusal, Outcome, stepOf}
-use Rattle.text.specs.Lines.{linesOf}
 use Rattle.text.specs.Replies.{needLine, verdictLine, refusalLine, refusedLine}
 
 -- "The program's store is 8,192 words."

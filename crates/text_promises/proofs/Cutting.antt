@@ -18,7 +18,7 @@ use Rattle.lines.proofs.Tests.{by-test}
 use Rattle.lines.proofs.AgreeLaws.{said-held, said-cut}
 use Rattle.text.specs.declared.state.Part.{Part}
 use Rattle.text.specs.declared.state.Part.the-variants.{Rules, Frames, Over}
-use Rattle.text.specs.Lines.{linesGoingOn}
+use Rattle.lines.specs.Lines.{linesGoingOn}
 use Rattle.text.specs.Replies.{longestReply}
 use Rattle.text.specs.Transcript.{emptyStore, framesFrom, rulesFrom, transcript}
 use Rattle.text.specs.Held.{lineLimit, heldLine, holding}

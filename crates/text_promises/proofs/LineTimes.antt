@@ -15,7 +15,7 @@ use Rattle.promises.specs.Stream.{State, Starts, started, after}
 use Rattle.promises.specs.TextRead.{goodLines, counterIn, frameIn, framesOf, countersOf}
 use Rattle.promises.specs.LineTimes.{replies, recordTimes, lineTimes, acceptedTimes, LinesTimed}
 use Rattle.promises.proofs.LineTimes.{line-times-are-true}
-use Rattle.text.specs.Lines.{linesOf}
+use Rattle.lines.specs.Lines.{linesOf}
 use Rattle.text.specs.Replies.{needLine, refusedLine}
 use Rattle.text.specs.Transcript.{emptyStore, Running, frameReply, frameLeaves, framesFrom}
 use Rattle.text_promises.specs.Meaning.{RulesThen}

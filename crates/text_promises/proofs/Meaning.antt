@@ -17,7 +17,7 @@ use Rattle.promises.proofs.StreamLaws.{one-more}
 use Rattle.promises.proofs.CallKept.{call-kept}
 use Rattle.promises.proofs.StreamKept.{stream-kept}
 use Rattle.promises.proofs.Verdicts.{truths-are-meaning, verdict-is-meaning}
-use Rattle.text.specs.Lines.{linesOf}
+use Rattle.lines.specs.Lines.{linesOf}
 use Rattle.text.specs.Replies.{needLine}
 use Rattle.text.specs.Transcript.{emptyStore, Running, frameOf, replyOf, frameReply, frameLeaves, framesFrom, tableThen, rulesFrom, transcript}
 use Rattle.text_promises.specs.Meaning.{FrameMeant, LineMeant, callsAfter, Meant, RulesThen, emptyLine, ruleLine, TranscriptTellsTheMeaning}

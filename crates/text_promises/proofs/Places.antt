@@ -1,44 +1,24 @@
 -- A text read by places says what its lines say: the place after a reading is past the line's end, and what is read of a line there is what is read
 -- of it alone.
-use mathlib.Core.List.{List, [], _∷_, _++_, map, append-assoc}
+use mathlib.Core.List.{List, _∷_, map}
 use mathlib.Core.Path.{_≡_, refl, sym, ap, _∙_}
 use Prim.Native.Nat.{ℕ, zero, suc, _+_, _≤_, _<_}
 use native.Mathlib.Omega.{arith}
 use borrow.Author.Tests.{leb-true, leb-false}
-use lib.Dec.{leb, eqb}
-use lib.ListN.{length, take, drop, length-drop, drop-of-length-le}
+use lib.Dec.{leb}
+use lib.ListN.{length, drop, length-drop, drop-of-length-le}
 use lib.Seq.{drop-drop}
-use Rattle.lines.specs.Line.{lineFeed, pastFirst, pastLineFeed}
+use Rattle.lines.specs.Line.{pastFirst, pastLineFeed}
 use Rattle.lines.specs.Read.{Said, end, numbers, refusal, bytesOf}
 use Rattle.lines.specs.Frame.{frameWidths, readFrame}
 use Rattle.lines.proofs.Tests.{by-test}
 use Rattle.lines.proofs.LineLaws.{next-past}
+use Rattle.lines.proofs.LinesLaws.{lines-first}
 use Rattle.lines.proofs.AgreeLaws.{past-some, said-alone}
 use Rattle.promises.specs.TextRead.{untilEnd, linesFrom}
 use Rattle.promises.proofs.Reading.{read-refused-exactly}
-use Rattle.text.specs.Lines.{cutOff, linesGoingOn, linesOf}
+use Rattle.lines.specs.Lines.{linesGoingOn, linesOf}
 use Rattle.text_promises.specs.Places.{LinesAreReadings}
-
--- The first line of a text, and the rest.
-cut-off : (line : List ℕ) (byte : ℕ) → cutOff (line ++ (byte ∷ [])) ≡ (line ++ (byte ∷ [])) ∷ []
-cut-off [] byte = refl
-cut-off (first ∷ line) byte = refl
-
-first-line : (line : List ℕ) (byte : ℕ) (text : List ℕ)
-    → linesGoingOn line (byte ∷ text)
-    ≡ (line ++ take (pastFirst (byte ∷ text)) (byte ∷ text)) ∷ linesOf (drop (pastFirst (byte ∷ text)) (byte ∷ text))
-unfolding linesGoingOn pastFirst
-first-line line byte [] =
-    by-test (eqb byte lineFeed) (λ ends. rw ends) (λ other. rw other (cut-off line byte))
-first-line line byte (next ∷ text) =
-    by-test (eqb byte lineFeed) (λ ends. rw ends)
-    (λ other. rw other
-    (first-line (line ++ (byte ∷ [])) next text
-    ∙ rw (append-assoc line (byte ∷ []) (take (pastFirst (next ∷ text)) (next ∷ text)))))
-
-lines-first : (text : List ℕ) → 0 < length text → linesOf text ≡ take (pastFirst text) text ∷ linesOf (drop (pastFirst text) text)
-lines-first [] some = absurd (omega arith)
-lines-first (byte ∷ text) some = first-line [] byte text
 
 -- Before the end something is said of a line.
 more-said : (said : Said) (more : List Said) → ¬ (said ≡ end) → untilEnd said more ≡ said ∷ more

@@ -1,7 +1,7 @@
 -- The whole case of document 01 ("The program's text"), computed from the definition.
 use mathlib.Core.Path.{refl}
 use Rattle.text.specs.Transcript.{emptyStore, transcript, rulesFrom, tableThen, framesFrom}
-use Rattle.text.specs.Lines.{linesGoingOn}
+use Rattle.lines.specs.Lines.{linesGoingOn}
 use Rattle.text.specs.Replies.{replyLine}
 use Rattle.lines.specs.Digits.{isDigit, digitValue, digitsAt, hexAt, digitByte, digits}
 use Rattle.lines.specs.Line.{rightAt, sumAt, lineAt}

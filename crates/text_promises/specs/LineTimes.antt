@@ -13,7 +13,7 @@ use Rattle.promises.specs.Stream.{Starts}
 use Rattle.promises.specs.AsIfNotMade.{judged}
 use Rattle.promises.specs.TextRead.{goodLines, countersOf}
 use Rattle.promises.specs.LineTimes.{lineReplies, Every, acceptedTimes}
-use Rattle.text.specs.Lines.{linesOf}
+use Rattle.lines.specs.Lines.{linesOf}
 use Rattle.text.specs.Replies.{needLine, refusedLine}
 use Rattle.text.specs.Transcript.{emptyStore, replyOf, transcript}
 use Rattle.text_promises.specs.Meaning.{RulesThen}

@@ -22,7 +22,7 @@ use Rattle.monitor.specs.Step.{Call, timeOf}
 use Rattle.promises.specs.Stream.{Starts, Keeps, clock, longer}
 use Rattle.promises.specs.Verdicts.{judgedFormula}
 use Rattle.text.specs.Replies.{needLine, verdictLine, refusedLine}
-use Rattle.text.specs.Lines.{linesOf}
+use Rattle.lines.specs.Lines.{linesOf}
 use Rattle.text.specs.Transcript.{emptyStore, frameOf, transcript}
 
 -- A good line's reply: the frame's time and the verdict where the frame is kept; 6 where its time is over the limit.

@@ -4,7 +4,7 @@ use mathlib.Core.Path.{_≡_}
 use Prim.Native.Nat.{ℕ}
 use Rattle.lines.specs.Frame.{readFrame}
 use Rattle.promises.specs.TextRead.{linesRead}
-use Rattle.text.specs.Lines.{linesOf}
+use Rattle.lines.specs.Lines.{linesOf}
 
 -- Each line as it is read alone, one after the other; a last one without line feed too.
 abbrev pub LinesAreReadings : Type 0
