@@ -13,7 +13,8 @@ ghost use Rattle.monitor.specs.Start.{startOf, saidStart};
 pub fn start(table: &[u32], store: &mut [u64]) -> Started
     ensures { λ r. ⌜ saidStart r (now (store .exit)) ≡ startOf (now (table .entry)) (now (store .entry)) ⌝ }
 {
-    let checked = ready(table, store.len());
+    let room = store.len();
+    let checked = ready(table, room);
     match checked {
         Checked::Refused(refusal) => Started {
             answer: StartAnswer::Refused(refusal),
