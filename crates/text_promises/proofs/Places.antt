@@ -44,7 +44,7 @@ module _ (text : List ℕ) (place : ℕ) (within : place < length text) where
   reading-on : (more : List Said) → more ≡ map alone (linesOf (drop (readFrame text place .next) text))
       → untilEnd (readFrame text place .said) more ≡ map alone (linesOf rest)
   reading-on more is =
-      let before : ¬ (readFrame text place .said ≡ end) = λ ends. let past = read-refused-exactly .ends text place .0 ends in omega arith in
+      let before : ¬ (readFrame text place .said ≡ end) = λ ends. let past = read-refused-exactly .frame .ends text place .0 ends in omega arith in
       let after : drop (readFrame text place .next) text ≡ drop (pastFirst rest) rest =
       ap (λ (next : ℕ). drop next text) next-is ∙ sym (drop-drop (pastFirst rest) place text) in
       more-said (readFrame text place .said) more before
@@ -57,7 +57,7 @@ readings text place (suc n) enough =
     by-test (leb (length text) place)
     (λ past.
     let at-end : length text ≤ place = leb-true _ _ past in
-    rw (drop-of-length-le text at-end, read-refused-exactly .ends text place .1 at-end))
+    rw (drop-of-length-le text at-end, read-refused-exactly .frame .ends text place .1 at-end))
     (λ more.
     let within : place < length text = leb-false _ _ more in
     let next : readFrame text place .next ≡ place + pastFirst (drop place text) = next-is text place within in
