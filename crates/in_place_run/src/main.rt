@@ -10,13 +10,13 @@ use compare::heading;
 use compare::rows_of;
 use monitor::record::Record;
 use rules::limits::ROW_LIMIT;
-use tables::HEARTBEAT;
-use tables::P;
-use tables::Q;
-use tables::put_rows;
+use samples::tables;
+use samples::tables::HEARTBEAT;
+use samples::tables::P;
+use samples::tables::Q;
+use samples::tables::put_rows;
 
 mod compare;
-mod tables;
 
 fn main() {
     heading(b"source 001, Tables 3, 4 and 5\n");

@@ -32,18 +32,21 @@ pub fn judged(table: &[u32], store: &[u64], left: Judged) {
 }
 
 fn verdict(table: &[u32], store: &[u64], holds: bool, kept: Record) {
-    if holds {
-        say(b"yes at ");
-    } else {
-        say(b"no at ");
-    }
-    number(kept.time);
+    verdict_at(holds, kept.time);
     say(b", truths ");
     let truths = kept.truths;
     truth_letters(&truths, kept.rows as usize);
     let counts = kept.counts;
     spans(table, store, &counts);
     say(b"\n");
+}
+
+fn verdict_at(holds: bool, time: u64) {
+    if holds {
+        labelled(b"yes at ", time);
+    } else {
+        labelled(b"no at ", time);
+    }
 }
 
 // T or F for each row.
@@ -83,8 +86,7 @@ fn spans(table: &[u32], store: &[u64], counts: &[u32; ROW_LIMIT]) {
 fn row_spans(table: &[u32], store: &[u64], row: usize, from: usize, count: u32) -> usize {
     let numbers = numbers_at(table, row);
     if stretch::is_owned(numbers) {
-        say(b", row ");
-        number(row as u64);
+        labelled(b", row ", row as u64);
         say(b" [ ");
         spans_from(store, from, count);
         say(b"]");
@@ -138,18 +140,21 @@ fn last(word: u64) {
 pub fn memory(kept: Record, store: &[u64]) {
     say(b"  record: seen ");
     letter(kept.seen);
-    say(b", time ");
-    number(kept.time);
-    say(b", rows ");
-    number(kept.rows as u64);
+    labelled(b", time ", kept.time);
+    labelled(b", rows ", kept.rows as u64);
+    rows_told(kept);
+    say(b"  store: [ ");
+    words(store);
+    say(b"]\n");
+}
+
+fn rows_told(kept: Record) {
     let truths = kept.truths;
     say(b", true rows [ ");
     true_rows(&truths);
     let counts = kept.counts;
     say(b"], spans of rows [ ");
     counted_rows(&counts);
-    say(b"]\n  store: [ ");
-    words(store);
     say(b"]\n");
 }
 
@@ -180,8 +185,7 @@ fn counted_rows(counts: &[u32; ROW_LIMIT]) {
 fn counted_row(row: usize, count: u32) {
     if count != 0 {
         number(row as u64);
-        say(b": ");
-        number(count as u64);
+        labelled(b": ", count as u64);
         say(b" ");
     }
 }
@@ -196,11 +200,14 @@ fn words(store: &[u64]) {
 }
 
 pub fn refused(why: Refusal) {
-    say(b"refused ");
-    number(refusal::number(why) as u64);
-    say(b", row ");
-    number(refusal::row(why) as u64);
+    labelled(b"refused ", refusal::number(why) as u64);
+    labelled(b", row ", refusal::row(why) as u64);
     say(b"\n");
+}
+
+pub fn labelled(text: &[u8], n: u64) {
+    say(text);
+    number(n);
 }
 
 pub fn number(n: u64) {

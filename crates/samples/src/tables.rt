@@ -1,7 +1,12 @@
-// The rule tables that are run: those of three rows as their numbers, longer ones by rows. p is bit 0 and q is bit 1 of the mask.
+// The rule tables that the programs run: those of three rows as their numbers, longer ones by rows. p is bit 0 and q is bit 1 of the mask.
 
 use rules::limits::NO_END;
 use rules::limits::ROW_NUMBERS;
+ghost use mathlib.Core.Path.{_≡_};
+ghost use Prim.Native.Nat.{_<_};
+ghost use lib.ListN.{length};
+ghost use Rattle.rules.specs.Limits.{rowNumbers};
+ghost use Rattle.samples.specs.Filled.{numberIn, filled};
 
 pub const P: u32 = 1;
 
@@ -95,7 +100,9 @@ pub const SINCE_OR_BEFORE: [[u32; ROW_NUMBERS]; 5] = [
 ];
 
 // Fills a table with the numbers of rows, one after the other, and 0 where there are no more.
-pub fn put_rows(rows: &[[u32; ROW_NUMBERS]], table: &mut [u32]) {
+pub fn put_rows(rows: &[[u32; ROW_NUMBERS]], table: &mut [u32])
+    ensures { λ _. ⌜ now (table .exit) ≡ filled (now (rows .entry)) (length (now (table .entry))) ⌝ }
+{
     let mut at = 0;
     while at < table.len() {
         table[at] = number_in(rows, at / ROW_NUMBERS, at % ROW_NUMBERS);
@@ -103,11 +110,12 @@ pub fn put_rows(rows: &[[u32; ROW_NUMBERS]], table: &mut [u32]) {
     }
 }
 
-fn number_in(rows: &[[u32; ROW_NUMBERS]], row: usize, field: usize) -> u32 {
+fn number_in(rows: &[[u32; ROW_NUMBERS]], row: usize, field: usize) -> u32
+    requires { ⌜ field < rowNumbers ⌝ }
+    ensures { λ r. ⌜ r ≡ numberIn (now (rows .entry)) row field ⌝ }
+{
     if row < rows.len() {
-        if field < ROW_NUMBERS {
-            return rows[row][field];
-        }
+        return rows[row][field];
     }
     0
 }
