@@ -9,6 +9,7 @@ use monitor::answer::Judged;
 use monitor::record::Record;
 use monitor::start::start;
 use monitor::step;
+use print::text::say;
 use rules::limits::ROW_LIMIT;
 use rules::numbers::number_at;
 use samples::tables;
@@ -22,11 +23,6 @@ const PLACES: usize = 12;
 const FEW: usize = 4;
 
 const UNWRITTEN: u32 = 4_294_967_295;
-
-pub fn heading(text: &[u8]) {
-    say(b"-- ");
-    say(text);
-}
 
 // Both stores started: the record, where the two agree.
 pub fn begin(table: &[u32], store: &mut [u64], other: &mut [u64]) -> Record {
@@ -267,8 +263,4 @@ fn same_words(a: &[u64], b: &[u64]) -> bool {
         i += 1;
     }
     true
-}
-
-fn say(text: &[u8]) {
-    io::write_all(STDOUT_FILENO, text);
 }

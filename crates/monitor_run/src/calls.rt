@@ -1,9 +1,5 @@
 // Each call of the monitor, with a line that says what was asked and what was answered.
 
-use crate::print;
-use crate::print::labelled;
-use crate::print::number;
-use crate::print::say;
 use monitor::answer::Judged;
 use monitor::answer::StartAnswer;
 use monitor::answer::Timed;
@@ -11,6 +7,10 @@ use monitor::frame_time::frame_time;
 use monitor::record::Record;
 use monitor::start;
 use monitor::step;
+use print::answers;
+use print::text::labelled;
+use print::text::number;
+use print::text::say;
 use rules::numbers::number_at;
 
 // The board's counter has sixteen bits.
@@ -52,10 +52,10 @@ pub fn begin(table: &[u32], store: &mut [u64]) -> Record {
     let answer = started.answer;
     match answer {
         StartAnswer::Good => say(b"good\n"),
-        StartAnswer::Refused(why) => print::refused(why),
+        StartAnswer::Refused(why) => answers::refused(why),
     }
     let kept = started.record;
-    print::memory(kept, store);
+    answers::memory(kept, store);
     kept
 }
 
@@ -69,7 +69,7 @@ pub fn call(
 ) -> Record {
     question(kind, asked, mask);
     let judged = judge(table, store, kept, kind, asked, mask);
-    print::judged(table, store, judged);
+    answers::judged(table, store, judged);
     judged.record
 }
 
@@ -109,6 +109,6 @@ fn timed(answer: Timed) {
             number(time);
             say(b"\n");
         }
-        Timed::Refused(why) => print::refused(why),
+        Timed::Refused(why) => answers::refused(why),
     }
 }

@@ -8,7 +8,8 @@ use calls::calls_from;
 use calls::run;
 use calls::time_alone;
 use monitor::record::Record;
-use print::heading;
+use print::answers::memory;
+use print::text::heading;
 use rules::limits::ROW_LIMIT;
 use rules::limits::ROW_NUMBERS;
 use samples::tables;
@@ -18,7 +19,6 @@ use samples::tables::Q;
 use samples::tables::put_rows;
 
 mod calls;
-mod print;
 
 // The last time that is taken, and the next.
 const LIMIT: u64 = 281_474_976_710_655;
@@ -193,7 +193,7 @@ fn no_end() {
         &[0, 999, 1000, 4294968296],
         &[P, P, 0, 0],
     );
-    print::memory(kept, store);
+    memory(kept, store);
 }
 
 fn between_events() {
@@ -378,7 +378,7 @@ fn for_the_record_too(store: &mut [u64], unsound: Record) {
 // q at 1, and p and q at 4.
 fn with_two_spans(store: &mut [u64]) -> Record {
     let kept = run(&tables::SINCE, store, Kind::Event, &[1, 4], &[Q, P + Q]);
-    print::memory(kept, store);
+    memory(kept, store);
     kept
 }
 
@@ -416,7 +416,7 @@ fn from_sound(table: &[u32]) {
     let mut space = [12, 13, 0, 0, 9];
     let store: &mut [u64] = &mut space;
     let kept = sound_record();
-    print::memory(kept, store);
+    memory(kept, store);
     calls_from(
         table,
         store,

@@ -1,6 +1,8 @@
-// The lines that the program writes: a call, its answer, and what it left. A list stands in brackets.
+// An answer, and what the call left. A list stands in brackets.
 
-use libc::STDOUT_FILENO;
+use crate::text::labelled;
+use crate::text::number;
+use crate::text::say;
 use monitor::answer::Answer;
 use monitor::answer::Judged;
 use monitor::record::Record;
@@ -12,11 +14,6 @@ use rules::stretch;
 
 // The stored last of a span without end.
 const NO_END: u64 = 18_446_744_073_709_551_615;
-
-pub fn heading(text: &[u8]) {
-    say(b"-- ");
-    say(text);
-}
 
 // The verdict with the time, the truths and the spans that the record tells of; or the refusal with the record and the store.
 pub fn judged(table: &[u32], store: &[u64], left: Judged) {
@@ -203,17 +200,4 @@ pub fn refused(why: Refusal) {
     labelled(b"refused ", refusal::number(why) as u64);
     labelled(b", row ", refusal::row(why) as u64);
     say(b"\n");
-}
-
-pub fn labelled(text: &[u8], n: u64) {
-    say(text);
-    number(n);
-}
-
-pub fn number(n: u64) {
-    io::print_decimal(STDOUT_FILENO, n);
-}
-
-pub fn say(text: &[u8]) {
-    io::write_all(STDOUT_FILENO, text);
 }

@@ -1,9 +1,9 @@
--- `monitor_run::print::spans` ends: the measure is the rows that are left. Assumes nothing.
+-- `print::answers::spans` ends: the measure is the rows that are left. Assumes nothing.
 use borrow.Author.Needs.{needs}
 use Prim.Native.Nat.{_≤_, _-_}
 use Rattle.rules.specs.Limits.{rowLimit}
-use Rattle.monitor_run.proofs.print.spans.Statement.{statement}
-use Rattle.monitor_run.proofs.print.spans.Tie as tie
+use Rattle.print.proofs.answers.spans.Statement.{statement}
+use Rattle.print.proofs.answers.spans.Tie as tie
 
 abbrev Inv-loop : tie.InvT-loop
 Inv-loop table store counts from₀ row₀ from row = row ≤ rowLimit

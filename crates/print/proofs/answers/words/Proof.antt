@@ -1,9 +1,9 @@
--- `monitor_run::print::words` ends: the measure is the words that are left. Assumes nothing.
+-- `print::answers::words` ends: the measure is the words that are left. Assumes nothing.
 use borrow.Author.Needs.{needs}
 use Prim.Native.Nat.{_≤_, _-_}
 use lib.ListN.{length}
-use Rattle.monitor_run.proofs.print.words.Statement.{statement}
-use Rattle.monitor_run.proofs.print.words.Tie as tie
+use Rattle.print.proofs.answers.words.Statement.{statement}
+use Rattle.print.proofs.answers.words.Tie as tie
 
 abbrev Inv-loop : tie.InvT-loop
 Inv-loop store at₀ t3 at = at ≤ length store

@@ -1,8 +1,8 @@
--- `monitor_run::print::spans_from` ends: the measure is the spans that are left. Assumes nothing.
+-- `print::answers::spans_from` ends: the measure is the spans that are left. Assumes nothing.
 use borrow.Author.Needs.{needs}
 use Prim.Native.Nat.{_≤_}
-use Rattle.monitor_run.proofs.print.spans_from.Statement.{statement}
-use Rattle.monitor_run.proofs.print.spans_from.Tie as tie
+use Rattle.print.proofs.answers.spans_from.Statement.{statement}
+use Rattle.print.proofs.answers.spans_from.Tie as tie
 
 abbrev Inv-loop : tie.InvT-loop
 Inv-loop store from count left₀ at₀ t6 t7 left at = left ≤ count

@@ -1,9 +1,9 @@
--- `monitor_run::print::truth_letters` ends: the measure is the rows that are left. Assumes nothing.
+-- `print::answers::truth_letters` ends: the measure is the rows that are left. Assumes nothing.
 use borrow.Author.Needs.{needs}
 use Prim.Native.Nat.{_≤_, _-_}
 use Rattle.rules.specs.Limits.{rowLimit}
-use Rattle.monitor_run.proofs.print.truth_letters.Statement.{statement}
-use Rattle.monitor_run.proofs.print.truth_letters.Tie as tie
+use Rattle.print.proofs.answers.truth_letters.Statement.{statement}
+use Rattle.print.proofs.answers.truth_letters.Tie as tie
 
 abbrev Inv-loop : tie.InvT-loop
 Inv-loop truths rows row₀ row = row ≤ rowLimit

@@ -1,9 +1,9 @@
--- `monitor_run::print::true_rows` ends: the measure is the rows that are left. Assumes nothing.
+-- `print::answers::true_rows` ends: the measure is the rows that are left. Assumes nothing.
 use borrow.Author.Needs.{needs}
 use Prim.Native.Nat.{_≤_, _-_}
 use Rattle.rules.specs.Limits.{rowLimit}
-use Rattle.monitor_run.proofs.print.true_rows.Statement.{statement}
-use Rattle.monitor_run.proofs.print.true_rows.Tie as tie
+use Rattle.print.proofs.answers.true_rows.Statement.{statement}
+use Rattle.print.proofs.answers.true_rows.Tie as tie
 
 abbrev Inv-loop : tie.InvT-loop
 Inv-loop truths row₀ row = row ≤ rowLimit
