@@ -1,7 +1,6 @@
 // Each call of the monitor, with a line that says what was asked and what was answered.
 
 use monitor::answer::Judged;
-use monitor::answer::StartAnswer;
 use monitor::answer::Timed;
 use monitor::frame_time::frame_time;
 use monitor::record::Record;
@@ -47,16 +46,9 @@ pub fn calls_from(
 }
 
 pub fn begin(table: &[u32], store: &mut [u64]) -> Record {
-    say(b"start -> ");
     let started = start::start(table, store);
-    let answer = started.answer;
-    match answer {
-        StartAnswer::Good => say(b"good\n"),
-        StartAnswer::Refused(why) => answers::refused(why),
-    }
-    let kept = started.record;
-    answers::memory(kept, store);
-    kept
+    answers::started(store, started);
+    started.record
 }
 
 pub fn call(
@@ -75,11 +67,9 @@ pub fn call(
 
 fn question(kind: Kind, asked: u64, mask: u32) {
     match kind {
-        Kind::Event => labelled(b"event ", asked),
-        Kind::Frame => labelled(b"frame ", asked),
+        Kind::Event => answers::asked(b"event ", asked, mask),
+        Kind::Frame => answers::asked(b"frame ", asked, mask),
     }
-    labelled(b", mask ", mask as u64);
-    say(b" -> ");
 }
 
 fn judge(

@@ -1,9 +1,7 @@
-// Runs the monitor over the tables of source 001 and over the numbers and examples of document 01. After each call stand its answer, the truths
-// and the spans; after each start and each refusal the whole record and store.
+// Runs the monitor over the tables of source 001 and over the numbers and examples of document 01; what it refuses is run by refusals_run. After
+// each call stand its answer, the truths and the spans; after each start and each refusal the whole record and store.
 
 use calls::Kind;
-use calls::begin;
-use calls::call;
 use calls::calls_from;
 use calls::run;
 use calls::time_alone;
@@ -39,7 +37,6 @@ fn main() {
     source();
     numbers();
     limits();
-    refusals();
     never_reached();
 }
 
@@ -59,15 +56,6 @@ fn limits() {
     time_alone(OVER_LIMIT, 0);
     longest();
     rows();
-    short_store();
-}
-
-fn refusals() {
-    refused_starts();
-    refused_tables();
-    refused_times();
-    refused_first();
-    refused_start_kept();
 }
 
 // A heading, a start on so many words, each of which holds 9, and then the calls.
@@ -281,126 +269,6 @@ fn negations(table: &mut [u32; OVER]) {
         table[row * ROW_NUMBERS + 1] = row as u32 - 1;
         row += 1;
     }
-}
-
-fn short_store() {
-    stream(
-        b"a store of need - 1 words is refused 4\n",
-        &tables::ONCE_TWO,
-        3,
-        Kind::Event,
-        &[0],
-        &[P],
-    );
-}
-
-fn refused_starts() {
-    start_alone(b"a start on a table of 14 numbers\n", &tables::CUT);
-    start_alone(b"a start on a row of kind 7\n", &tables::KIND_7);
-    start_alone(b"a start on a row with a over b\n", &tables::A_OVER_B);
-    start_alone(
-        b"a start on a table that needs 6 words, on 5\n",
-        &tables::SIX_WORDS,
-    );
-}
-
-fn start_alone(what: &[u8], table: &[u32]) {
-    stream(what, table, WORDS, Kind::Event, &[], &[]);
-}
-
-// Refusals 1 to 4. The last event of each of these three is as if nothing had been tried before it.
-fn refused_tables() {
-    heading(b"refused for the table or the store, by p since [2,3] q\n");
-    let mut space = [9; WORDS];
-    let store: &mut [u64] = &mut space;
-    let kept = with_two_spans(store);
-    damaged(store, kept);
-    tried(
-        b"6 words needed, 5 there\n",
-        &tables::SIX_WORDS,
-        store,
-        kept,
-        5,
-    );
-    tried(b"nothing wrong\n", &tables::SINCE, store, kept, 5);
-}
-
-fn damaged(store: &mut [u64], kept: Record) {
-    tried(b"a table of 14 numbers\n", &tables::CUT, store, kept, 5);
-    tried(b"a row of kind 7\n", &tables::KIND_7, store, kept, 5);
-    tried(b"a row with a over b\n", &tables::A_OVER_B, store, kept, 5);
-}
-
-// Refusals 7, 6 and 5.
-fn refused_times() {
-    heading(b"refused for the record or the time, by p since [2,3] q\n");
-    let mut space = [9; WORDS];
-    let store: &mut [u64] = &mut space;
-    let kept = with_two_spans(store);
-    tried(
-        b"a span before the time\n",
-        &tables::SINCE,
-        store,
-        at_time(kept, 5),
-        5,
-    );
-    at_times(store, kept);
-}
-
-fn at_times(store: &mut [u64], kept: Record) {
-    tried(b"over the limit\n", &tables::SINCE, store, kept, OVER_LIMIT);
-    tried(b"below the last time\n", &tables::SINCE, store, kept, 3);
-    tried(b"nothing wrong\n", &tables::SINCE, store, kept, 5);
-}
-
-// Two refusals are due, and the one that is tried first is given: 4 before 7, 7 before 6, 7 before 5.
-fn refused_first() {
-    heading(b"refused for two reasons, by p since [2,3] q\n");
-    let mut space = [9; WORDS];
-    let store: &mut [u64] = &mut space;
-    let kept = with_two_spans(store);
-    for_the_record_too(store, at_time(kept, 5));
-    tried(b"nothing wrong\n", &tables::SINCE, store, kept, 5);
-}
-
-fn for_the_record_too(store: &mut [u64], unsound: Record) {
-    tried(b"store and record\n", &tables::SIX_WORDS, store, unsound, 5);
-    tried(
-        b"record and limit\n",
-        &tables::SINCE,
-        store,
-        unsound,
-        OVER_LIMIT,
-    );
-    tried(b"record and last time\n", &tables::SINCE, store, unsound, 3);
-}
-
-// q at 1, and p and q at 4.
-fn with_two_spans(store: &mut [u64]) -> Record {
-    let kept = run(&tables::SINCE, store, Kind::Event, &[1, 4], &[Q, P + Q]);
-    memory(kept, store);
-    kept
-}
-
-// An event with p, under a heading that says what is tried.
-fn tried(what: &[u8], table: &[u32], store: &mut [u64], kept: Record, time: u64) {
-    heading(what);
-    call(table, store, kept, Kind::Event, time, P);
-}
-
-// The record with another time, which its spans need not fit.
-fn at_time(kept: Record, time: u64) -> Record {
-    let mut changed = kept;
-    changed.time = time;
-    changed
-}
-
-fn refused_start_kept() {
-    heading(b"an event on the record of a refused start\n");
-    let mut space = [9; WORDS];
-    let store: &mut [u64] = &mut space;
-    let kept = begin(&tables::KIND_7, store);
-    call(&tables::SINCE, store, kept, Kind::Event, 4, P);
 }
 
 fn never_reached() {

@@ -5,6 +5,8 @@ use crate::text::number;
 use crate::text::say;
 use monitor::answer::Answer;
 use monitor::answer::Judged;
+use monitor::answer::StartAnswer;
+use monitor::answer::Started;
 use monitor::record::Record;
 use rules::limits::ROW_LIMIT;
 use rules::numbers::numbers_at;
@@ -14,6 +16,24 @@ use rules::stretch;
 
 // The stored last of a span without end.
 const NO_END: u64 = 18_446_744_073_709_551_615;
+
+// The answer to a start, and what it left.
+pub fn started(store: &[u64], left: Started) {
+    say(b"start -> ");
+    let answer = left.answer;
+    match answer {
+        StartAnswer::Good => say(b"good\n"),
+        StartAnswer::Refused(why) => refused(why),
+    }
+    memory(left.record, store);
+}
+
+// What is asked of a call: its kind with its time or counter, and its mask.
+pub fn asked(kind: &[u8], number: u64, mask: u32) {
+    labelled(kind, number);
+    labelled(b", mask ", mask as u64);
+    say(b" -> ");
+}
 
 // The verdict with the time, the truths and the spans that the record tells of; or the refusal with the record and the store.
 pub fn judged(table: &[u32], store: &[u64], left: Judged) {
