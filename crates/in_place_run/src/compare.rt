@@ -77,6 +77,17 @@ pub fn frames(table: &[u32], counters: &[u16], masks: &[u32]) {
     let mut other_space = [9; WORDS];
     let other: &mut [u64] = &mut other_space;
     let found = begin(table, store, other);
+    frames_from(table, store, other, found, counters, masks);
+}
+
+fn frames_from(
+    table: &[u32],
+    store: &mut [u64],
+    other: &mut [u64],
+    found: Record,
+    counters: &[u16],
+    masks: &[u32],
+) {
     let mut codes = [UNWRITTEN; PLACES];
     let mut places = [UNWRITTEN; PLACES];
     let by_value = judge_all(
