@@ -1,12 +1,12 @@
--- Any two outcomes that the contract of a public function allows are the same: the answer or the record given, the record where it stands, and every word and code that was lent.
+-- Any two outcomes that the contract of a public function allows are the same: the answer or the record given, the record where it stands, and
+-- every word and code that was lent.
 use mathlib.Core.List.{List}
 use mathlib.Core.Path.{_≡_, sym, ap, _∙_}
 use Prim.Native.Nat.{ℕ}
 use Rattle.rules.proofs.Outcomes.{one-value}
 use Rattle.monitor.specs.declared.record.Record.{Record}
 use Rattle.monitor.specs.declared.answer.Answer.{Answer}
-use Rattle.monitor.specs.declared.answer.Judged.{Judged}
-use Rattle.monitor.specs.Step.{Setup, Outcome, said, stepOf, saidStep}
+use Rattle.monitor.specs.Step.{Setup, Outcome, said, stepOf}
 use Rattle.monitor.proofs.Outcomes.{answerOf, answer-back}
 use Rattle.in_place.specs.Call.{callOf, saidIn}
 use Rattle.in_place.specs.Code.{codeOf}
@@ -23,13 +23,6 @@ one-call-in setup store found call p q kept kept′ words words′ h h′ =
       ap (λ (o : Outcome). o .left) same,
       ap (λ (o : Outcome). o .store) same,
     )
-
--- `in_place::call::judge`: the same, the record beside the answer.
-pub one-judge : (setup : Setup) (store : List ℕ) (found : Record) (call : Call) (p q : Judged) (words words′ : List ℕ)
-    → saidStep p words ≡ stepOf setup store found (callOf call) → saidStep q words′ ≡ stepOf setup store found (callOf call) → (p ≡ q) × (words ≡ words′)
-one-judge setup store found call p q words words′ h h′ =
-    let same = one-call-in setup store found call (p .answer) (q .answer) (p .record) (q .record) words words′ h h′ in
-    (λ i. record { answer = same .0 i; «record» = same .1 i }, same .2)
 
 -- `in_place::code::code`.
 pub one-code : (a : Answer) (p q : ℕ) → p ≡ codeOf (said a) → q ≡ codeOf (said a) → p ≡ q

@@ -83,7 +83,7 @@ module _ (setup : Setup) (call : ℕ → Call) (found : Record) (store codes : L
         let past : drop count (at count .codes) ≡ [] = drop-of-length-le (at count .codes) {i = count} (rw (same-length count) full) in
         rw (past, no-place setup (at count .left) (at count .store) (drop count calls), ← past, take-append-drop count (at count .codes))
 
-    pub run-of-turns : (drop count calls ≡ []) ⊎ (length codes ≤ count) → at count ≡ runOf setup found store codes calls
+    run-of-turns : (drop count calls ≡ []) ⊎ (length codes ≤ count) → at count ≡ runOf setup found store codes calls
     run-of-turns stops = sym (ended stops) ∙ so-far count (omega arith)
 
 -- The least of the lengths is judged: then either the rows have no call left, or there is no place left.

@@ -23,7 +23,8 @@ ran left store codes = record { left = left; store = store; codes = codes }
 abbrev pub after : ℕ → Ran → Ran
 after code rest = ran (rest .left) (rest .store) (code ∷ rest .codes)
 
--- Each call is judged from what the one before it left, and its answer's code takes the next place of the row. Where there is no place left, no call is judged.
+-- Each call is judged from what the one before it left, and its answer's code takes the next place of the row. Where there is no place left, no
+-- call is judged.
 unfoldable pub runOf : Setup → Record → List ℕ → List ℕ → List Call → Ran
 runOf setup found store codes [] = ran found store codes
 runOf setup found store [] (call ∷ calls) = ran found store []

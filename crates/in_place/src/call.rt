@@ -7,12 +7,14 @@ ghost use mathlib.Core.Path.{_≡_};
 ghost use Rattle.monitor.specs.Step.{stepOf, saidStep};
 ghost use Rattle.in_place.specs.Call.{callOf};
 
+// An event has its time; a frame has the board's counter.
 pub enum Call {
     Event { time: u64, mask: u32 },
     Frame { counter: u16, mask: u32 },
 }
 
-pub fn judge(table: &[u32], store: &mut [u64], found: Record, call: Call) -> Judged
+// The verdict or the refusal of a call, as `event` and `frame` of the monitor give it.
+pub(crate) fn judge(table: &[u32], store: &mut [u64], found: Record, call: Call) -> Judged
     ensures { λ r. ⌜ saidStep r (now (store .exit)) ≡ stepOf (record { table = now (table .entry) }) (now (store .entry)) found (callOf call) ⌝ }
 {
     match call {

@@ -1,18 +1,20 @@
 // A stream judged by value on one store and in place on another, and what the two left compared.
 
-use crate::tables;
 use in_place::code::code;
 use in_place::run::run_events;
 use in_place::run::run_frames;
 use libc::STDOUT_FILENO;
 use monitor::answer::Answer;
+use monitor::answer::Judged;
 use monitor::record::Record;
 use monitor::start::start;
 use monitor::step;
+use print::text::say;
 use rules::limits::ROW_LIMIT;
 use rules::numbers::number_at;
+use samples::tables;
 
-// A store for every table that is run, and a word past the need.
+// A store for every table that is not refused, and a word past the need.
 pub const WORDS: usize = 5;
 
 // The places of a row of answers: more than any stream has calls, or fewer. What a place holds that no code was written to.
@@ -21,11 +23,6 @@ const PLACES: usize = 12;
 const FEW: usize = 4;
 
 const UNWRITTEN: u32 = 4_294_967_295;
-
-pub fn heading(text: &[u8]) {
-    say(b"-- ");
-    say(text);
-}
 
 // Both stores started: the record, where the two agree.
 pub fn begin(table: &[u32], store: &mut [u64], other: &mut [u64]) -> Record {
@@ -58,7 +55,16 @@ pub fn events_from(
 ) -> Record {
     let mut codes = [UNWRITTEN; PLACES];
     let mut places = [UNWRITTEN; PLACES];
-    let by_value = events_by_value(table, store, found, times, masks, &mut codes);
+    let by_value = judge_all(
+        table,
+        store,
+        found,
+        times,
+        &[],
+        masks,
+        &mut codes,
+        times.len(),
+    );
     let in_place = run_events(table, other, found, times, masks, &mut places);
     compared(store, other, by_value, in_place, &codes, &places);
     by_value
@@ -71,9 +77,29 @@ pub fn frames(table: &[u32], counters: &[u16], masks: &[u32]) {
     let mut other_space = [9; WORDS];
     let other: &mut [u64] = &mut other_space;
     let found = begin(table, store, other);
+    frames_from(table, store, other, found, counters, masks);
+}
+
+fn frames_from(
+    table: &[u32],
+    store: &mut [u64],
+    other: &mut [u64],
+    found: Record,
+    counters: &[u16],
+    masks: &[u32],
+) {
     let mut codes = [UNWRITTEN; PLACES];
     let mut places = [UNWRITTEN; PLACES];
-    let by_value = frames_by_value(table, store, found, counters, masks, &mut codes);
+    let by_value = judge_all(
+        table,
+        store,
+        found,
+        &[],
+        counters,
+        masks,
+        &mut codes,
+        counters.len(),
+    );
     let in_place = run_frames(table, other, found, counters, masks, &mut places);
     compared(store, other, by_value, in_place, &codes, &places);
 }
@@ -88,23 +114,35 @@ pub fn rows_of(times: &[u64], masks: &[u32], first: &[u64]) {
     let found = begin(table, store, other);
     let mut codes = [UNWRITTEN; FEW];
     let mut places = [UNWRITTEN; FEW];
-    let by_value = events_by_value(table, store, found, first, masks, &mut codes);
+    let by_value = judge_all(
+        table,
+        store,
+        found,
+        first,
+        &[],
+        masks,
+        &mut codes,
+        first.len(),
+    );
     let in_place = run_events(table, other, found, times, masks, &mut places);
     compared(store, other, by_value, in_place, &codes, &places);
 }
 
-fn events_by_value(
+// By value: so many calls, each an event where there is a time, otherwise a frame.
+fn judge_all(
     table: &[u32],
     store: &mut [u64],
     found: Record,
     times: &[u64],
+    counters: &[u16],
     masks: &[u32],
     codes: &mut [u32],
+    count: usize,
 ) -> Record {
     let mut kept = found;
     let mut i = 0;
-    while i < times.len() {
-        let judged = step::event(table, store, kept, times[i], number_at(masks, i));
+    while i < count {
+        let judged = judge(table, store, kept, times, counters, masks, i);
         kept = judged.record;
         let answer = judged.answer;
         put_code(codes, i, answer);
@@ -113,24 +151,27 @@ fn events_by_value(
     kept
 }
 
-fn frames_by_value(
+fn judge(
     table: &[u32],
     store: &mut [u64],
-    found: Record,
+    kept: Record,
+    times: &[u64],
     counters: &[u16],
     masks: &[u32],
-    codes: &mut [u32],
-) -> Record {
-    let mut kept = found;
-    let mut i = 0;
-    while i < counters.len() {
-        let judged = step::frame(table, store, kept, counters[i], number_at(masks, i));
-        kept = judged.record;
-        let answer = judged.answer;
-        put_code(codes, i, answer);
-        i += 1;
+    i: usize,
+) -> Judged {
+    let mask = number_at(masks, i);
+    if i < times.len() {
+        return step::event(table, store, kept, times[i], mask);
     }
-    kept
+    step::frame(table, store, kept, counter_at(counters, i), mask)
+}
+
+fn counter_at(counters: &[u16], i: usize) -> u16 {
+    if i < counters.len() {
+        return counters[i];
+    }
+    0
 }
 
 fn put_code(codes: &mut [u32], i: usize, answer: Answer) {
@@ -220,6 +261,7 @@ fn same_numbers(a: &[u32], b: &[u32]) -> bool {
     true
 }
 
+// The same for words of 64 bits: the language has no function over both.
 fn same_words(a: &[u64], b: &[u64]) -> bool {
     if a.len() != b.len() {
         return false;
@@ -232,8 +274,4 @@ fn same_words(a: &[u64], b: &[u64]) -> bool {
         i += 1;
     }
     true
-}
-
-fn say(text: &[u8]) {
-    io::write_all(STDOUT_FILENO, text);
 }

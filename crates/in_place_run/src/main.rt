@@ -6,17 +6,17 @@ use compare::begin;
 use compare::events;
 use compare::events_from;
 use compare::frames;
-use compare::heading;
 use compare::rows_of;
 use monitor::record::Record;
+use print::text::heading;
 use rules::limits::ROW_LIMIT;
-use tables::HEARTBEAT;
-use tables::P;
-use tables::Q;
-use tables::put_rows;
+use samples::tables;
+use samples::tables::HEARTBEAT;
+use samples::tables::P;
+use samples::tables::Q;
+use samples::tables::put_rows;
 
 mod compare;
-mod tables;
 
 fn main() {
     heading(b"source 001, Tables 3, 4 and 5\n");
@@ -132,12 +132,16 @@ fn refused() {
     let other: &mut [u64] = &mut other_space;
     let begun = begin(&tables::SINCE, store, other);
     let kept = events_from(&tables::SINCE, store, other, begun, &[1, 4], &[Q, P + Q]);
+    refused_tables(store, other, kept);
+    tried(&tables::SINCE, store, other, at_time(kept, 5));
+    tried(&tables::SINCE, store, other, kept);
+}
+
+fn refused_tables(store: &mut [u64], other: &mut [u64], kept: Record) {
     tried(&tables::CUT, store, other, kept);
     tried(&tables::KIND_7, store, other, kept);
     tried(&tables::A_OVER_B, store, other, kept);
     tried(&tables::SIX_WORDS, store, other, kept);
-    tried(&tables::SINCE, store, other, at_time(kept, 5));
-    tried(&tables::SINCE, store, other, kept);
 }
 
 // A time over the limit, one below the last event's, and a good one.
@@ -160,27 +164,30 @@ fn at_time(kept: Record, time: u64) -> Record {
 }
 
 fn never_reached() {
+    let mut store = [12, 13, 0, 0, 9];
+    let mut other = [12, 13, 0, 0, 9];
+    let mut table = [0; 25];
+    put_rows(&tables::SINCE_OR_BEFORE, &mut table);
+    events_from(
+        &table,
+        &mut store,
+        &mut other,
+        sound_record(),
+        &[11, 13, 14, 15],
+        &[P, P + Q, P, Q],
+    );
+}
+
+fn sound_record() -> Record {
     let mut truths = [false; ROW_LIMIT];
     truths[2] = true;
     let mut counts = [0; ROW_LIMIT];
     counts[2] = 1;
-    let kept = Record {
+    Record {
         seen: true,
         time: 10,
         rows: 5,
         truths,
         counts,
-    };
-    let mut store = [12, 13, 0, 0, 9];
-    let mut other = [12, 13, 0, 0, 9];
-    let mut since_or_before = [0; 25];
-    put_rows(&tables::SINCE_OR_BEFORE, &mut since_or_before);
-    events_from(
-        &since_or_before,
-        &mut store,
-        &mut other,
-        kept,
-        &[11, 13, 14, 15],
-        &[P, P + Q, P, Q],
-    );
+    }
 }

@@ -15,16 +15,19 @@ pub struct Judged {
     pub record: Record,
 }
 
+// The answer to a start: good, or a refusal 1 to 4.
 pub enum StartAnswer {
     Good,
     Refused(Refusal),
 }
 
+// The same with the record that the start gives.
 pub struct Started {
     pub answer: StartAnswer,
     pub record: Record,
 }
 
+// The time of a frame, or refusal 6.
 pub enum Timed {
     At(u64),
     Refused(Refusal),

@@ -14,7 +14,8 @@ pub const TIME_LIMIT: u64 = 281_474_976_710_655;
 // The board's counter has sixteen bits.
 const TURN: u64 = 65_536;
 
-// The last time, and the gap that the counter shows since. Only last is judged: the time may pass the limit, and the event then refuses it.
+// The time of a frame: last, and the gap that the counter shows since. Refused 6 where last is over the limit. Only last is judged: the time may
+// pass the limit, and the event then refuses it.
 pub fn frame_time(last: u64, counter: u16) -> Timed
     ensures { λ r. ⌜ saidTime r ≡ frameTimeOf last counter ⌝ }
 {

@@ -1,4 +1,4 @@
--- `rules_run::first_numbers` meets its contract: the part that is checked is as long as asked, since that much is there. Assumes nothing.
+-- `rules_run::first_numbers` is safe: the part that is checked is as long as asked, since that much is there. Assumes nothing.
 use borrow.Author.Needs.{needs}
 use mathlib.Core.Path.{sym}
 use lib.Seq.{length-take-le}

@@ -1,7 +1,8 @@
--- `in_place::code::code` meets its contract. A refusal's number is at most 9, so the code fits. Assumes nothing.
-use Prim.Native.Nat.{_≤_}
+-- `in_place::code::code` meets its contract. A refusal's number is small enough for the code to fit. Assumes nothing.
+use Prim.Native.Nat.{_<_}
 use native.Mathlib.Omega.{arith}
 use borrow.Author.Needs.{needs}
+use Rattle.in_place.specs.Code.{verdictRoom}
 use Rattle.in_place.proofs.CodeLaws.{number-small}
 use Rattle.in_place.proofs.code.code.Statement.{statement}
 use Rattle.in_place.proofs.code.code.Tie as tie
@@ -20,7 +21,7 @@ number-requires c κs = search needs
 
 mul-result : tie.Need-mul-result
 mul-result c =
-    let small : c .number .result ≤ 9 = rw (c .number .ensures) (number-small (c .before .before .answer2 .given .0 .0)) in
+    let small : c .number .result < verdictRoom = rw (c .number .ensures) (number-small (c .before .before .answer2 .given .0 .0)) in
     omega arith
 
 row-requires : tie.Need-row-requires
@@ -28,7 +29,7 @@ row-requires c κs = search needs
 
 add-result : tie.Need-add-result
 add-result c =
-    let small : c .before .number .result ≤ 9 = rw (c .before .number .ensures) (number-small (c .before .before .before .answer2 .given .0 .0)) in
+    let small : c .before .number .result < verdictRoom = rw (c .before .number .ensures) (number-small (c .before .before .before .answer2 .given .0 .0)) in
     omega arith
 
 returns-2 : tie.Need-returns-2

@@ -1,6 +1,9 @@
--- `in_place::kept::call_in` meets its contract: a walk of its MIR, by hand. The borrow of the record is opened, the record is copied out and handed to `judge` beside the table, the store and the call, the record that `judge` gives is stored whole, the borrow is closed there, and the answer is returned.
+-- `in_place::kept::call_in` meets its contract: a walk of its MIR, by hand. The borrow of the record is opened, the record is copied out and handed
+-- to `judge` beside the table, the store and the call, the record that `judge` gives is stored whole, the borrow is closed there, and the answer is
+-- returned.
 -- All that the proof knows of `judge` is that it meets its contract; the walk hands its fact on and never opens it.
--- The store goes to the callee at its own lifetime, share and name and is given up for good; the table is Copy and is had twice; the record, the call and the answer are plain, so what they own is made of their relations.
+-- The store goes to the callee at its own lifetime, share and name and is given up for good; the table is Copy and is had twice; the record, the call
+-- and the answer are plain, so what they own is made of their relations.
 -- Assumes nothing.
 use mathlib.Core.Path.{_≡_, refl, ap}
 use Prim.Native.Nat.{ℕ}
@@ -131,9 +134,6 @@ module _ {M : Type 1} (𝓤 : URA M) (H : Heap 𝓤) (A : Atoms 𝓤) (W : Given
   -- the last values that the callee says
   abbrev Lasts : Type 0
   Lasts = Unit {0} × (List ℕ × (Unit {0} × (Unit {0} × Unit {0})))
-
-  abbrev machʳ : Judged → Val
-  machʳ r = LL.val J.the-type J′.the-laws r
 
   abbrev answer : Judged → Val
   answer r = EL.val S.the-type S′.the-laws (r .answer)

@@ -1,6 +1,9 @@
--- `in_place::run::run_calls` meets its contract: a walk of its MIR, by hand. The record is copied into a local that stays where it is; each turn makes a call from the rows (`call_at`), lends the local and the store to `call_in`, and lends the row of answers to `put_code`.
--- The loop's invariant is `Reached`: the record, the words and the codes are those of `turnsOf` at the place. Of the three callees the walk knows only that they meet their contracts; `next` makes the next state of their facts.
--- Each lend is for a lifetime of its own, which ends before the lent is used again. The rows and the table are Copy; records, calls and answers are plain, so what they own is made of their relations.
+-- `in_place::run::run_calls` meets its contract: a walk of its MIR, by hand. The record is copied into a local that stays where it is; each turn
+-- makes a call from the rows (`call_at`), lends the local and the store to `call_in`, and lends the row of answers to `put_code`.
+-- The loop's invariant is `Reached`: the record, the words and the codes are those of `turnsOf` at the place. Of the three callees the walk knows
+-- only that they meet their contracts; `next` makes the next state of their facts.
+-- Each lend is for a lifetime of its own, which ends before the lent is used again. The rows and the table are Copy; records, calls and answers are
+-- plain, so what they own is made of their relations.
 -- Assumes nothing.
 use mathlib.Core.Bool.{Bool, true, false}
 use mathlib.Core.Path.{_≡_, refl, sym, ap, subst, _∙_}

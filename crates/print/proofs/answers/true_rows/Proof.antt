@@ -1,0 +1,47 @@
+-- `print::answers::true_rows` ends: the measure is the rows that are left. Assumes nothing.
+use borrow.Author.Needs.{needs}
+use Prim.Native.Nat.{_≤_, _-_}
+use Rattle.rules.specs.Limits.{rowLimit}
+use Rattle.print.proofs.answers.true_rows.Statement.{statement}
+use Rattle.print.proofs.answers.true_rows.Tie as tie
+
+abbrev Inv-loop : tie.InvT-loop
+Inv-loop truths row₀ row = row ≤ rowLimit
+
+abbrev μ-loop : tie.MeasureT-loop
+μ-loop truths row₀ row = rowLimit - row
+
+loop-holds : tie.Need-loop-holds Inv-loop μ-loop
+loop-holds c = search needs
+
+element-copy-out-true-row : tie.Need-element-copy-out-true-row Inv-loop μ-loop
+element-copy-out-true-row c = search needs
+
+true-row-requires : tie.Need-true-row-requires Inv-loop μ-loop
+true-row-requires c κs = search needs
+
+add-row : tie.Need-add-row Inv-loop μ-loop
+add-row c = search needs
+
+loop-less : tie.Need-loop-less Inv-loop μ-loop
+loop-less c = search needs
+
+loop-again : tie.Need-loop-again Inv-loop μ-loop
+loop-again c = search needs
+
+returns : tie.Need-returns Inv-loop μ-loop
+returns c = search needs
+
+pub true-rows-spec : {M : Type 1} → statement M
+true-rows-spec =
+    tie.close
+    (tie.spec
+    Inv-loop
+    μ-loop
+    loop-holds
+    element-copy-out-true-row
+    true-row-requires
+    add-row
+    loop-less
+    loop-again
+    returns)

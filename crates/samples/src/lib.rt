@@ -1,0 +1,3 @@
+// What the programs that run the monitor share: the rule tables.
+
+pub mod tables;
