@@ -10,6 +10,7 @@ use lib.ListN.{length}
 use Rattle.meaning.specs.Interval.{End, upTo, noEnd, _≤End_, _+End_}
 use Rattle.meaning.specs.Spans.{Span, _to_, reach, clip, join, update}
 use Rattle.meaning.specs.Sound.{SoundFrom, SoundEndless, SoundSpans, lengthOf}
+use Rattle.meaning.proofs.SoundLaws.{none-sound}
 use Rattle.meaning.specs.Figure.{figure}
 use Rattle.meaning.proofs.SpansLaws.{by-leb}
 use Rattle.meaning.proofs.FigureLaws.{figure-is-enough}
@@ -108,11 +109,6 @@ clip-sound now t event later latestFirst laterFirst long (upTo b) S present seen
 clip-sound now t event later latestFirst laterFirst long noEnd S present seen first room sound =
     clip-endless now t latestFirst laterFirst S first room sound
 
-none-sound : (t latestFirst long : ℕ) (latestLast : End) → SoundSpans t latestFirst latestLast long []
-unfolding SoundSpans SoundFrom SoundEndless
-none-sound t latestFirst long (upTo latest) = tt
-none-sound t latestFirst long noEnd = tt
-
 join-sound : (t a latestFirst : ℕ) (b : End) (S : List Span) → a ≤End b → t + a ≤ latestFirst
     → SoundSpans t latestFirst (t +End b) (lengthOf a b) S
     → SoundSpans t latestFirst (t +End b) (lengthOf a b) (join (reach t a b) S)
@@ -138,7 +134,7 @@ sound-kept keep feed now t event a latestFirst laterFirst b S order present seen
 
     kept : (keep : Bool) → SoundSpans t laterFirst (t +End b) (lengthOf a b) (cond keep (clip t S) [])
     kept true = clipped
-    kept false = none-sound t laterFirst (lengthOf a b) (t +End b)
+    kept false = none-sound t laterFirst (t +End b) (lengthOf a b)
 
     go : (keep feed : Bool) → SoundSpans t laterFirst (t +End b) (lengthOf a b) (update keep feed t (reach t a b) S)
     go keep true = join-sound t a laterFirst b (cond keep (clip t S) []) order reached (kept keep)

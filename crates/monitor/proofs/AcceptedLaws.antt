@@ -1,16 +1,15 @@
 -- What is known where a call is not refused: the table passes, the store has room, the record is sound and the time is in order; and so each
 -- row's spans are laid out in its stretch, and those after the event have room there, whatever the truths of the lower rows.
-use mathlib.Core.Bool.{Bool, true, false, cond}
+use mathlib.Core.Bool.{Bool, true, false}
 use mathlib.Core.List.{List}
-use mathlib.Core.Logic.{⊎-elim}
-use mathlib.Core.Option.{Option, none, some}
+use mathlib.Core.Option.{Option, none}
 use mathlib.Core.Path.{_≡_, refl, sym, subst}
-use Prim.Native.Nat.{ℕ, _+_, _*_, _^_, _≤_, _<_}
+use Prim.Native.Nat.{ℕ, _+_, _*_, _≤_, _<_}
 use native.Mathlib.Omega.{arith}
-use lib.Dec.{T, leb, eqb}
+use lib.Dec.{T, leb}
 use lib.ListN.{length}
 use borrow.Author.Tests.{leb-true}
-use Rattle.meaning.specs.Interval.{upTo, noEnd, noEndNumber, endOf, _≤End_, _+End_}
+use Rattle.meaning.specs.Interval.{endOf, _+End_}
 use Rattle.meaning.specs.Spans.{reach, update}
 use Rattle.meaning.specs.Sound.{lengthOf}
 use Rattle.meaning.specs.Figure.{figure}
@@ -22,7 +21,8 @@ use Rattle.rules.specs.Refusals.{Refused, _orElse_}
 use Rattle.rules.specs.declared.numbers.Numbers.{Numbers}
 use Rattle.rules.specs.declared.refusal.Refusal.{Refusal}
 use Rattle.rules.specs.declared.refusal.Refusal.the-variants.{Earlier, Late, Record}
-use Rattle.rules.proofs.PassedLaws.{InRange}
+use Rattle.rules.proofs.TableLaws.{or-none}
+use Rattle.rules.proofs.PassedLaws.{InRange, range-order, limit-fits}
 use Rattle.rules.proofs.StretchesLaws.{stretch-before}
 use Rattle.spans.specs.Layout.{Packed}
 use Rattle.spans.proofs.LayoutLaws.{Storable}
@@ -46,10 +46,6 @@ pub record Accepted (table store : List ℕ) (found : Kept.Record) (time : ℕ) 
   pub early : time ≤ timeLimit
   pub risen : found .time ≤ time
 
-or-none : (p q : Option Refused) → (p orElse q) ≡ none → (p ≡ none) × (q ≡ none)
-or-none none q h = (refl, h)
-or-none (some fault) q h = let z : _≡_ {A = ℕ} 0 1 = cc in absurd (omega arith)
-
 unless-none : (test : Bool) (refusal : Refusal) → unless test refusal ≡ none → test ≡ true
 unless-none true refusal h = refl
 unless-none false refusal h = let z : _≡_ {A = ℕ} 0 1 = cc in absurd (omega arith)
@@ -70,18 +66,6 @@ accepted setup store found call h =
       early = leb-true _ _ (unless-none (leb (timeOf (found .time) call) timeLimit) Late (third .0));
       risen = leb-true _ _ (unless-none (leb (found .time) (timeOf (found .time) call)) Earlier (third .1));
     }
-
--- Limits in range: b fits a number of the table, and a is not past b.
-limit-fits : (a b : ℕ) → InRange a b → b < 2 ^ 32
-limit-fits a b range = ⊎-elim (λ e. omega arith) (λ both. omega arith) (range .most)
-
-order : (a b : ℕ) → InRange a b → a ≤End endOf b
-unfolding endOf
-order a b range = go (eqb b noEndNumber) refl
-  where
-    go : (endless : Bool) → eqb b noEndNumber ≡ endless → a ≤End cond endless noEnd (upTo b)
-    go true h = tt
-    go false h = ⊎-elim (λ e. omega (arith, range .least)) (λ both. both .0) (range .most)
 
 module _ (table store : List ℕ) (found : Kept.Record) (time : ℕ) (met : Accepted table store found time) where
   module _ (row : ℕ) (lower : row < rowsOf table) where
@@ -118,7 +102,7 @@ module _ (table store : List ℕ) (found : Kept.Record) (time : ℕ) (met : Acce
         ≤ length (stretchAt table store row)
     room-for keep feed size =
         sound-ready (found .time) time (found .time) (numbers .a) (found .time + numbers .a) (endOf (numbers .b)) (stretchAt table store row)
-        (heldAt found row) storable stretch-sound keep feed (order (numbers .a) (numbers .b) range) (met .risen) (met .risen) size
+        (heldAt found row) storable stretch-sound keep feed (range-order (numbers .a) (numbers .b) range) (met .risen) (met .risen) size
 
 -- The spans of a row after the event have room, whatever the truths of the lower rows.
 module _ (m : Moment) (met : Accepted (m .table) (m .store) (m .found) (m .time)) (row : ℕ) (lower : row < rowsOf (m .table))

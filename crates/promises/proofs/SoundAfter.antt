@@ -7,6 +7,7 @@ use lib.ListN.{length}
 use Rattle.meaning.specs.Interval.{endOf, _+End_}
 use Rattle.meaning.specs.Spans.{Span}
 use Rattle.meaning.specs.Sound.{lengthOf}
+use Rattle.meaning.proofs.SoundLaws.{none-sound}
 use Rattle.rules.specs.Kinds.{Rule, plain, stretch}
 use Rattle.rules.specs.Rows.{rowsOf, numbersAt, ruleOf, named}
 use Rattle.rules.specs.Stretches.{needOf}
@@ -22,7 +23,7 @@ use Rattle.monitor.proofs.AcceptedLaws.{Accepted, row-enough}
 use Rattle.promises.specs.Conditions.{Ready, RowSound, StretchRight, RecordRight}
 use Rattle.promises.proofs.Deciding.{told-true}
 use Rattle.promises.proofs.TableRefusals.{start-passes}
-use Rattle.promises.proofs.StretchTold.{in-range-of, none-sound, row-stored}
+use Rattle.promises.proofs.StretchTold.{in-range-of, row-stored}
 use Rattle.promises.proofs.RecordTold.{all-stretches, record-told}
 
 -- The conditions of a call are met, as the monitor's own laws have them.

@@ -8,7 +8,7 @@ use Rattle.meaning.specs.Interval.{endOf}
 use Rattle.meaning.specs.History.{History}
 use Rattle.meaning.specs.Spans.{Span}
 use Rattle.meaning.proofs.HistoryLaws.{NoLater}
-use Rattle.meaning.proofs.SoundLaws.{runs-sound}
+use Rattle.meaning.proofs.SoundLaws.{none-sound, runs-sound}
 use Rattle.meaning.proofs.RunsLaws.{runs-only, runs-none}
 use Rattle.meaning.proofs.FigureLaws.{figure-is-enough}
 use Rattle.rules.specs.Kinds.{Rule, plain, stretch}
@@ -18,7 +18,6 @@ use Rattle.rules.proofs.PassedLaws.{InRange, range-order}
 use Rattle.promises.specs.Conditions.{RowSound}
 use Rattle.promises.specs.Spans.{NamedHolds}
 use Rattle.promises.proofs.Invariant.{Spanned}
-use Rattle.promises.proofs.StretchTold.{none-sound}
 
 module _ (table : List ℕ) (row : ℕ) (h : History) (clock : ℕ) where
   pub spanned-sound : NoLater clock h

@@ -23,7 +23,6 @@ use Rattle.promises.specs.Spans.{NamedHolds}
 use Rattle.promises.proofs.Invariant.{Spanned, Invariant}
 use Rattle.promises.specs.Conditions.{Ready, RecordRight}
 use Rattle.promises.proofs.TableRefusals.{start-passes, start-decided}
-use Rattle.promises.proofs.StretchTold.{none-sound}
 use Rattle.promises.proofs.Refusing.{refused-exactly}
 
 -- Nothing but 0 is read from zeros, and false from a list of it.

@@ -7,9 +7,10 @@ use mathlib.Core.Path.{_≡_, refl}
 use Prim.Native.Nat.{ℕ, zero, suc, _+_, _≤_, _<_}
 use native.Mathlib.Omega.{arith}
 use lib.ListN.{length, getD}
-use Rattle.meaning.specs.Interval.{End, upTo, noEnd, endOf, _+End_}
+use Rattle.meaning.specs.Interval.{endOf, _+End_}
 use Rattle.meaning.specs.Spans.{Span}
-use Rattle.meaning.specs.Sound.{SoundFrom, SoundEndless, SoundSpans, lengthOf}
+use Rattle.meaning.specs.Sound.{lengthOf}
+use Rattle.meaning.proofs.SoundLaws.{none-sound}
 use Rattle.meaning.specs.Figure.{figure}
 use Rattle.meaning.proofs.Tells.{Tells, tells-eqb, tells-same, tells-decided}
 use Rattle.rules.specs.Kinds.{rowX, rowY, stretch, kindAt, hasStretch}
@@ -58,11 +59,6 @@ other-spans n other = rw (spans-by-column (ruleOf n) n, other-rule n other)
 
 pub in-range-of : {a b : ℕ} → LimitsRight a b → InRange a b
 in-range-of limits = record { least = limits .low; most = ⊎-elim inr inl (limits .high) }
-
-pub none-sound : (now latestFirst : ℕ) (latestLast : End) (long : ℕ) → SoundSpans now latestFirst latestLast long []
-unfolding SoundSpans SoundFrom SoundEndless
-none-sound now latestFirst (upTo latest) long = tt
-none-sound now latestFirst noEnd long = tt
 
 -- Sound spans can be stored.
 pub row-stored : (n : Numbers) (now : ℕ) (S : List Span) → now ≤ timeLimit → InRange (n .a) (n .b) → RowSound n now S → Stored S
