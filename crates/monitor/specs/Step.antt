@@ -4,7 +4,7 @@ use mathlib.Core.List.{List}
 use mathlib.Core.Option.{Option, none, some}
 use Prim.Native.Nat.{ℕ, _-_}
 use lib.Dec.{leb}
-use lib.ListN.{length}
+use lib.ListN.{length, getD}
 use Rattle.meaning.specs.FrameTime.{frameTime}
 use Rattle.rules.specs.Rows.{rowsOf}
 use Rattle.rules.specs.Refusals.{Refused, refused, _orElse_}
@@ -41,6 +41,10 @@ timeOf last (frame counter mask) = frameTime last counter
 abbrev pub maskOf : Call → ℕ
 maskOf (event time mask) = mask
 maskOf (frame counter mask) = mask
+
+-- The frame of a line's numbers: its counter and its mask.
+abbrev pub frameOf : List ℕ → Call
+frameOf given = frame (getD given 0 0) (getD given 1 0)
 
 -- A condition that is not met is its refusal.
 abbrev pub unless : Bool → Refusal → Option Refused

@@ -13,12 +13,12 @@ use Rattle.rules.specs.Refusals.{Refused, refused, numberOf}
 use Rattle.rules.specs.declared.refusal.Refusal.the-variants.{Earlier}
 use Rattle.monitor.specs.declared.record.Record.{Record}
 use Rattle.monitor.specs.Record.{timeLimit}
-use Rattle.monitor.specs.Step.{Setup, timeOf, frame, Reply, verdict, refusal}
+use Rattle.monitor.specs.Step.{Setup, timeOf, frame, frameOf, Reply, verdict, refusal}
 use Rattle.promises.specs.Stream.{State, call, next, started, Keeps, eventOf}
 use Rattle.promises.specs.Refusing as Refusing
 use Rattle.promises.specs.Refusing.{TableRefused, StartRefused, CallRefused}
 use Rattle.promises.specs.AsIfNotMade.{judged}
-use Rattle.promises.specs.TextRead.{linesRead, goodLines, counterIn, frameIn, framesOf, countersOf}
+use Rattle.promises.specs.TextRead.{linesRead, goodLines, counterIn, framesOf, countersOf}
 use Rattle.promises.specs.LineTimes.{replies, recordTimes, Every, acceptedTimes, LineTimesAreTrue, TextTimesAreTrue, FramesNeverEarlier}
 use Rattle.promises.proofs.Invariant.{Invariant}
 use Rattle.promises.proofs.Refusing.{refused-exactly}
@@ -49,16 +49,16 @@ counted (given ∷ lines) (time ∷ times) same =
 -- One line more, with the counter of a time that did not fall, after a gap of less than a turn: where its frame is kept, its time is the clock.
 module _ {table : List ℕ} {h : History} {last : ℕ} {s : State} (inv : Invariant table h last s) (given : List ℕ) (time : ℕ)
     (same : counterIn given ≡ counterOf time) (risen : last ≤ time) (gap : time - last < turn) where
-  is-true : timeOf last (frameIn given) ≡ time
+  is-true : timeOf last (frameOf given) ≡ time
   is-true = rw same (frame-time-true last time risen gap)
 
-  keeps : time ≤ timeLimit → Keeps last (frameIn given)
+  keeps : time ≤ timeLimit → Keeps last (frameOf given)
   keeps within = record { within = omega (arith, is-true); risen = omega (arith, is-true) }
 
-  after : Keeps last (frameIn given) → Invariant table (eventOf last (frameIn given) ∷ h) time (next table s (frameIn given))
+  after : Keeps last (frameOf given) → Invariant table (eventOf last (frameOf given) ∷ h) time (next table s (frameOf given))
   after kept =
-      subst (λ (clock : ℕ). Invariant table (eventOf last (frameIn given) ∷ h) clock (next table s (frameIn given))) is-true
-      (call-kept inv (frameIn given) kept)
+      subst (λ (clock : ℕ). Invariant table (eventOf last (frameOf given) ∷ h) clock (next table s (frameOf given))) is-true
+      (call-kept inv (frameOf given) kept)
 
 module _ (table : List ℕ) where
   abbrev AllTrue : State → List (List ℕ) → List ℕ → Type 0
@@ -76,8 +76,8 @@ module _ (table : List ℕ) where
   all-true {s = s} inv (line {given} {lines} {time} {times} same others) (risen, gap, close) (early, within) =
       let kept = keeps inv given time same risen gap early in
       let on = after inv given time same risen gap kept in
-      let rest : AllTrue (next table s (frameIn given)) lines times = all-true on others close within in
-      ((rw (kept-reply inv (frameIn given) kept) tt, rest .0), rw (on .time, rest .1))
+      let rest : AllTrue (next table s (frameOf given)) lines times = all-true on others close within in
+      ((rw (kept-reply inv (frameOf given) kept) tt, rest .0), rw (on .time, rest .1))
 
   -- Where the times of those that are accepted go on from the clock, the record has them.
   abbrev AcceptedTrue : List (List ℕ) → List ℕ → Type 0
@@ -93,21 +93,21 @@ module _ (table : List ℕ) where
       → AcceptedTrue lines times
       → AcceptedTrue (given ∷ lines) (time ∷ times)
   unfolding replies recordTimes acceptedTimes Close
-  line-more given lines time times same more h last s inv = go (call table s (frameIn given) .reply) refl
+  line-more given lines time times same more h last s inv = go (call table s (frameOf given) .reply) refl
     where
       answered : List Reply
       answered = replies table s (framesOf (given ∷ lines))
 
       go : (reply : Reply)
-          → call table s (frameIn given) .reply ≡ reply
+          → call table s (frameOf given) .reply ≡ reply
           → Close last (acceptedTimes answered (time ∷ times))
           → acceptedTimes answered (recordTimes table s (framesOf (given ∷ lines))) ≡ acceptedTimes answered (time ∷ times)
       go (verdict holds) e close =
           let (risen, gap, further) = rw e at close in
-          let on = after inv given time same risen gap (only-kept inv (frameIn given) holds e) in
+          let on = after inv given time same risen gap (only-kept inv (frameOf given) holds e) in
           rw (e, on .time) (ap (λ (later : List ℕ). time ∷ later) (more _ _ _ on further))
       go (refusal fault) e close =
-          rw e (more h last _ (subst (Invariant table h last) (sym (refused-same table s (frameIn given) e)) inv) (rw e at close))
+          rw e (more h last _ (subst (Invariant table h last) (sym (refused-same table s (frameOf given) e)) inv) (rw e at close))
 
   accepted-true : {lines : List (List ℕ)} {times : List ℕ} → Counted lines times → AcceptedTrue lines times
   unfolding replies recordTimes acceptedTimes

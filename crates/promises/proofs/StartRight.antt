@@ -10,6 +10,7 @@ use lib.Seq.{take-at, drop-at}
 use Rattle.meaning.proofs.HistoryLaws.{NoLater}
 use Rattle.meaning.proofs.SpansLaws.{le-or-lt}
 use Rattle.meaning.proofs.RunsLaws.{runs-none}
+use Rattle.meaning.proofs.SoundLaws.{none-sound}
 use Rattle.rules.specs.Limits.{rowLimit}
 use Rattle.rules.specs.Kinds.{Rule, plain, stretch}
 use Rattle.rules.specs.Rows.{rowsOf, numbersAt, ruleOf}

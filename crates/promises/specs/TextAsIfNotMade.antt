@@ -6,7 +6,7 @@ use mathlib.Core.List.{List}
 use mathlib.Core.Path.{_≡_}
 use Prim.Native.Nat.{ℕ, _+_}
 use Rattle.rules.specs.Refusals.{Refused}
-use Rattle.monitor.specs.Step.{Setup, Reply, refusal}
+use Rattle.monitor.specs.Step.{Setup, frameOf, Reply, refusal}
 use Rattle.lines.specs.Read as line
 use Rattle.lines.specs.Read.{Said, Read}
 use Rattle.lines.specs.Frame.{readFrame}
@@ -14,7 +14,6 @@ use Rattle.promises.specs.Stream.{State}
 use Rattle.promises.specs.LeftOut.{Machine, Unchanged}
 use Rattle.promises.specs.AsIfNotMade.{Attempt, attempt, leaves, judged}
 use Rattle.promises.specs.Reading.{Past, frameBytes}
-use Rattle.promises.specs.TextRead.{frameIn}
 
 -- Where a line is read, and what its frame is attempted with.
 pub record Reading : Type 0 where
@@ -27,7 +26,7 @@ abbrev pub read : Reading → Read
 read r = readFrame (r .text) (r .place)
 
 abbrev pub framed : Reading → List ℕ → Attempt
-framed r given = record { setup = r .setup; size = r .size; made = frameIn given }
+framed r given = record { setup = r .setup; size = r .size; made = frameOf given }
 
 -- "end", or a verdict or a refusal: of the line, or else of its frame.
 pub data Answer : Type 0 where

@@ -5,7 +5,7 @@ use Prim.Native.Nat.{ℕ, zero, suc, _+_, _≤_}
 use lib.ListN.{length, getD}
 use Rattle.lines.specs.Read.{Said, end, numbers, refusal}
 use Rattle.lines.specs.Frame.{readFrame}
-use Rattle.monitor.specs.Step.{Call, frame}
+use Rattle.monitor.specs.Step.{Call, frameOf}
 
 -- The place after so many readings. At the end it stays.
 unfoldable pub placeAfter : List ℕ → ℕ → ℕ → ℕ
@@ -40,12 +40,9 @@ goodLines (refusal fault ∷ lines) = goodLines lines
 abbrev pub counterIn : List ℕ → ℕ
 counterIn given = getD given 0 0
 
-abbrev pub frameIn : List ℕ → Call
-frameIn given = frame (counterIn given) (getD given 1 0)
-
 -- The calls that good lines make, a frame each, and their counters. A refused line makes no call.
 abbrev pub framesOf : List (List ℕ) → List Call
-framesOf lines = map frameIn lines
+framesOf lines = map frameOf lines
 
 abbrev pub countersOf : List (List ℕ) → List ℕ
 countersOf lines = map counterIn lines

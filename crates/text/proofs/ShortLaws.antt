@@ -20,12 +20,12 @@ use Rattle.lines.specs.Rule.{readRule}
 use Rattle.lines.proofs.Tests.{by-test}
 use Rattle.lines.proofs.WriteLaws.{length-digits}
 use Rattle.monitor.specs.Start.{startOf}
-use Rattle.monitor.specs.Step.{Reply}
+use Rattle.monitor.specs.Step.{frameOf, Reply}
 use Rattle.monitor.specs.Step as step
 use Rattle.text.specs.declared.state.Part.{Part}
 use Rattle.text.specs.declared.state.Part.the-variants.{Rules, Frames, Over}
 use Rattle.text.specs.Replies.{needDigits, timeDigits, longestReply, replyLine, verdictNumber, refusalLine, refusedLine}
-use Rattle.text.specs.Transcript.{Running, judged, frameOf, replyOf, frameReply}
+use Rattle.text.specs.Transcript.{Running, judged, replyOf, frameReply}
 use Rattle.text.specs.Held.{heldLine, holding}
 use Rattle.text.specs.Turn.{Desk, rowsRead, runningAt, startText, ruleTurn, beforeFrames, turnIn}
 use Rattle.text.specs.Feed.{Memory, byteLeaves, byteText, feed, stepOf}

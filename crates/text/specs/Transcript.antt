@@ -4,7 +4,7 @@ use mathlib.Core.List.{List, [], _∷_, _++_}
 use mathlib.Core.Option.{Option, none, some}
 use Prim.Native.Nat.{ℕ}
 use lib.Dec.{leb, eqb}
-use lib.ListN.{getD, replicate}
+use lib.ListN.{replicate}
 use Rattle.rules.specs.Limits.{rowLimit}
 use Rattle.rules.specs.Refusals.{Refused, refused}
 use Rattle.rules.specs.Rows.{rowsOf}
@@ -19,7 +19,7 @@ use Rattle.lines.specs.Frame.{readFrame}
 use Rattle.lines.specs.Rule.{readRule}
 use Rattle.monitor.specs.declared.record.Record.{Record}
 use Rattle.monitor.specs.Start.{Beginning, startOf}
-use Rattle.monitor.specs.Step.{Call, frame, Reply, verdict, refusal, Outcome, stepOf}
+use Rattle.monitor.specs.Step.{Call, frameOf, Reply, verdict, refusal, Outcome, stepOf}
 use Rattle.text.specs.Replies.{needLine, verdictLine, refusalLine, refusedLine}
 
 -- "The program's store is 8,192 words."
@@ -37,10 +37,6 @@ pub record Running : Type 0 where
 
 abbrev pub judged : Running → Call → Outcome
 judged s c = stepOf (record { table = s .table }) (s .store) (s .found) c
-
--- The frame of a good line: its counter and mask.
-abbrev pub frameOf : List ℕ → Call
-frameOf given = frame (getD given 0 0) (getD given 1 0)
 
 -- "per frame 12 digits of time and 00 or 01; per refusal EE, number 2 digits, row or 00".
 abbrev pub replyOf : ℕ → Reply → List ℕ

@@ -10,9 +10,9 @@ use Rattle.rules.specs.Stretches.{needOf}
 use Rattle.lines.specs.Read.{Said, end, numbers, refusal}
 use Rattle.lines.specs.Frame.{readFrame}
 use Rattle.monitor.specs.Step as step
-use Rattle.monitor.specs.Step.{Call, Reply}
+use Rattle.monitor.specs.Step.{Call, frameOf, Reply}
 use Rattle.promises.specs.Stream.{State, Starts, started, after}
-use Rattle.promises.specs.TextRead.{goodLines, counterIn, frameIn, framesOf, countersOf}
+use Rattle.promises.specs.TextRead.{goodLines, counterIn, framesOf, countersOf}
 use Rattle.promises.specs.LineTimes.{replies, recordTimes, lineTimes, acceptedTimes, LinesTimed}
 use Rattle.promises.proofs.LineTimes.{line-times-are-true}
 use Rattle.lines.specs.Lines.{linesOf}
@@ -73,7 +73,7 @@ length-times table s (c ∷ calls) = ap suc (length-times table _ calls)
 
 same-length : (lines : List (List ℕ)) (times : List ℕ) → countersOf lines ≡ map counterOf times → length (framesOf lines) ≡ length times
 same-length lines times same =
-    length-map lines frameIn ∙ sym (length-map lines counterIn) ∙ ap length same ∙ length-map times counterOf
+    length-map lines frameOf ∙ sym (length-map lines counterIn) ∙ ap length same ∙ length-map times counterOf
 
 module _ (text table : List ℕ) (lines : List (List ℕ)) (times : List ℕ) (rules : RulesThen [] (linesOf text) table lines)
     (starts : Starts table emptyStore) (same : countersOf (goodLines (readLines lines)) ≡ map counterOf times) where

@@ -11,7 +11,7 @@ use Rattle.lines.specs.Digits.{byteAt}
 use Rattle.lines.specs.Line.{lineFeed}
 use Rattle.lines.specs.Read.{Said, end, numbers, refusal}
 use Rattle.lines.specs.Frame.{readFrame}
-use Rattle.monitor.specs.Step.{Call, timeOf}
+use Rattle.monitor.specs.Step.{Call, timeOf, frameOf}
 use Rattle.promises.specs.Stream.{Starts, after, state, clock, outcome}
 use Rattle.promises.proofs.StreamLaws.{one-more}
 use Rattle.promises.proofs.CallKept.{call-kept}
@@ -19,7 +19,7 @@ use Rattle.promises.proofs.StreamKept.{stream-kept}
 use Rattle.promises.proofs.Verdicts.{truths-are-meaning, verdict-is-meaning}
 use Rattle.lines.specs.Lines.{linesOf}
 use Rattle.text.specs.Replies.{needLine}
-use Rattle.text.specs.Transcript.{emptyStore, Running, frameOf, replyOf, frameReply, frameLeaves, framesFrom, tableThen, rulesFrom, transcript}
+use Rattle.text.specs.Transcript.{emptyStore, Running, replyOf, frameReply, frameLeaves, framesFrom, tableThen, rulesFrom, transcript}
 use Rattle.text_promises.specs.Meaning.{FrameMeant, LineMeant, callsAfter, Meant, RulesThen, emptyLine, ruleLine, TranscriptTellsTheMeaning}
 
 -- What the monitor has after the calls so far.

@@ -18,12 +18,12 @@ use Rattle.lines.specs.Read.{Said, end, numbers, refusal}
 use Rattle.lines.specs.Frame.{readFrame}
 use Rattle.lines.specs.Rule.{readRule}
 use Rattle.monitor.specs.Record.{timeLimit}
-use Rattle.monitor.specs.Step.{Call, timeOf}
+use Rattle.monitor.specs.Step.{Call, timeOf, frameOf}
 use Rattle.promises.specs.Stream.{Starts, Keeps, clock, longer}
 use Rattle.promises.specs.Verdicts.{judgedFormula}
 use Rattle.text.specs.Replies.{needLine, verdictLine, refusedLine}
 use Rattle.lines.specs.Lines.{linesOf}
-use Rattle.text.specs.Transcript.{emptyStore, frameOf, transcript}
+use Rattle.text.specs.Transcript.{emptyStore, transcript}
 
 -- A good line's reply: the frame's time and the verdict where the frame is kept; 6 where its time is over the limit.
 pub record FrameMeant (table : List ℕ) (calls : List Call) (c : Call) (reply : List ℕ) : Type 0 where
