@@ -212,9 +212,6 @@ module _ {M : Type 1} (𝓤 : URA M) (H : Heap 𝓤) (A : Atoms 𝓤) (W : Given
   abbrev Lasts : Type 0
   Lasts = Unit {0} × (List ℕ × (Unit {0} × (Unit {0} × (Unit {0} × Unit {0}))))
 
-  abbrev machʳ : MukJudged → Val
-  machʳ r = LL.val J.the-type J′.the-laws r
-
   abbrev answer : MukJudged → Val
   answer r = LL.val S.the-type S′.the-laws (r .answer)
 

@@ -14,7 +14,7 @@ use Rattle.rules.specs.declared.refusal.Refusal.the-variants as Refusal
 use Rattle.monitor.specs.Ready.{readyOf, refusalIn}
 use Rattle.monitor.specs.Record.{nothingSeen}
 use Rattle.monitor.specs.Soundness.{sound?}
-use Rattle.monitor.specs.Step.{Setup, Call, refusal, momentOf, outcome, refusalOf, stepOf}
+use Rattle.monitor.specs.Step.{Setup, Call, momentOf, outcome, refusalOf, stepOf}
 use Rattle.monitor.proofs.ReadyLaws.{ready-none}
 use Rattle.board.specs.declared.record.MukRecord.{MukRecord}
 use Rattle.board.specs.Record.{readable?, recordOf}

@@ -13,7 +13,7 @@ use Rattle.lines.specs.declared.frame.FrameFound.the-variants as frame
 use Rattle.lines.specs.declared.rule.RuleRead.{RuleRead}
 use Rattle.lines.specs.declared.rule.RuleFound.{RuleFound}
 use Rattle.lines.specs.declared.rule.RuleFound.the-variants as rule
-use Rattle.lines.specs.Digits.{digitsAt, Written}
+use Rattle.lines.specs.Digits.{Written}
 use Rattle.lines.specs.Read.{Said, end, numbers, refusal, Read}
 use Rattle.lines.specs.Frame.{readFrame, frameFound, frameSaid}
 use Rattle.lines.specs.declared.reader.Reader.{Reader}
@@ -61,10 +61,6 @@ pub one-rule : (text : List ℕ) (place : ℕ) (r r′ : RuleRead) → ruleSaid 
 one-rule text place =
     one-said ruleSaid (λ (s : Read). record { found = ruleOf (s .said); next = s .next })
     (λ (r : RuleRead). ap (λ (f : RuleFound). record { found = f; next = r .next }) (rule-undone (r .found)))
-
--- `lines::digits::digits_at`.
-pub one-count : (text : List ℕ) (place n r r′ : ℕ) → r ≡ digitsAt text place n → r′ ≡ digitsAt text place n → r ≡ r′
-one-count text place n r r′ = one-value
 
 -- `lines::digits::write_digits`: the answer, and every byte of what was lent.
 pub one-writing : (out : List ℕ) (place n value : ℕ) (done done′ : Bool) (after after′ : List ℕ)

@@ -12,8 +12,6 @@ use Rattle.rules.specs.Limits.{rowLimit}
 use Rattle.rules.specs.Rows.{rowsOf, numbersAt}
 use Rattle.rules.specs.Stretches.{width, offset}
 use Rattle.rules.proofs.PassedLaws.{width-most}
-use Rattle.spans.specs.Layout.{packed}
-use Rattle.spans.proofs.LayoutLaws.{length-packed}
 use Rattle.monitor.specs.declared.record.Record.{Record}
 use Rattle.monitor.specs.declared.event.Judgement.{Judgement}
 use Rattle.monitor.specs.Record.{stretchAt}
