@@ -1,10 +1,11 @@
--- A call in place: the walk, by hand, of the MIR that `board::kept::muk_event_in` and `board::kept::muk_frame_in` share, over the width of their number,
--- the function that they call and what the number is to it. The borrow of the record is opened, the record is copied out and handed to the callee beside the
--- table, the store, the number and the mask, the record that the callee gives is stored whole, the borrow is closed there, and the answer is returned.
--- All that the walk knows of the callee is that it meets its contract; it hands the callee's fact on and never opens it.
--- The store goes to the callee at its own lifetime, share and name and is given up for good; the table is Copy and is had twice; the record, the numbers and
--- the answer are plain, so what they own is made of their relations.
--- Assumes nothing.
+-- A call in place: the walk, by hand, of the MIR that `board::kept::muk_event_in` and `board::kept::muk_frame_in` share, over the width of their
+-- number, the function that they call and what the number is to it. The borrow of the record is opened, the record is copied out and handed to the
+-- callee beside the table, the store, the number and the mask, the record that the callee gives is stored whole, the borrow is closed there, and the
+-- answer is returned. All that the walk knows of the callee is that it meets its contract; it hands the callee's fact on and never opens it.
+-- The store goes to the callee at its own lifetime, share and name and is given up for good; the table is Copy and is had twice; the record, the
+-- numbers and the answer are plain, so what they own is made of their relations.
+-- It goes as the walk of `call_in` in crate `in_place` goes; there the record is the monitor's and the callee takes an enum, here the record is C's and
+-- the callee takes two numbers, so that locals and types differ. Assumes nothing.
 use mathlib.Core.Path.{_≡_, refl, ap}
 use Prim.Native.Nat.{ℕ, _<_, _^_}
 use mathlib.Core.List.{List, [], _∷_}

@@ -1,6 +1,7 @@
 // The record as C holds it, in and out of the monitor's. C memory may hold any byte where a truth stands.
 
 use monitor::record::Record;
+use monitor::record::nothing_seen;
 use rules::limits::ROW_LIMIT;
 ghost use mathlib.Core.List.{map};
 ghost use mathlib.Core.Path.{_≡_};
@@ -31,13 +32,7 @@ pub(crate) fn record_of(given: MukRecord) -> Record
             counts,
         };
     }
-    Record {
-        seen: false,
-        time: 0,
-        rows: 0,
-        truths: [false; ROW_LIMIT],
-        counts: [0; ROW_LIMIT],
-    }
+    nothing_seen(0)
 }
 
 // The bytes of a record.

@@ -18,7 +18,7 @@ pub struct Record {
 }
 
 // A record with nothing seen, of so many rows; all zero where there are none.
-pub(crate) fn nothing_seen(rows: u32) -> Record
+pub fn nothing_seen(rows: u32) -> Record
     ensures { λ r. ⌜ r ≡ nothingSeen rows ⌝ }
 {
     Record {

@@ -1,5 +1,5 @@
--- The tests of the table check tell the conditions on a table in document 01's words, in both directions. What each test tells is proved in `rules`; here
--- it is taken to those words.
+-- The tests of the table check tell the conditions on a table in document 01's words, in both directions. What each test tells is proved in `rules`;
+-- here it is taken to those words.
 use mathlib.Core.List.{List}
 use mathlib.Core.Logic.{⊎-elim, inl, inr}
 use mathlib.Core.Path.{_≡_, refl, subst⁻¹}

@@ -6,7 +6,7 @@ ghost use Prim.Native.Nat.{min};
 ghost use Rattle.text.specs.Held.{lineLimit, holding, emptied};
 ghost use Rattle.text.specs.Feed.{fresh};
 use monitor::record::Record;
-use rules::limits::ROW_LIMIT;
+use monitor::record::nothing_seen;
 
 // No good line is longer: a rule line has 24 digits and its line feed.
 pub const LINE_LIMIT: usize = 25;
@@ -50,13 +50,7 @@ pub fn fresh() -> State
         stage: Stage {
             part: Part::Rules,
             rows: 0,
-            found: Record {
-                seen: false,
-                time: 0,
-                rows: 0,
-                truths: [false; ROW_LIMIT],
-                counts: [0; ROW_LIMIT],
-            },
+            found: nothing_seen(0),
         },
     }
 }

@@ -1,13 +1,15 @@
 -- `text::state::fresh` meets its contract. Assumes nothing.
-use mathlib.Core.Path.{refl}
-use Rattle.monitor.specs.Record.{nothingSeen}
+use borrow.Author.Needs.{needs}
 use Rattle.text.specs.Feed.{fresh}
 use Rattle.text.proofs.state.fresh.Statement.{statement}
 use Rattle.text.proofs.state.fresh.Tie as tie
 
+nothing-seen-requires : tie.Need-nothing-seen-requires
+nothing-seen-requires c κs = search needs
+
 returns : tie.Need-returns
-unfolding fresh nothingSeen
-returns c = refl
+unfolding fresh
+returns c = rw (c .nothing-seen .ensures)
 
 pub fresh-spec : {M : Type 1} → statement M
-fresh-spec = tie.close (tie.spec returns)
+fresh-spec = tie.close (tie.spec nothing-seen-requires returns)
