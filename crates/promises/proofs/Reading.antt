@@ -14,14 +14,14 @@ use lib.Seq.{getD-drop}
 use Rattle.meaning.proofs.SpansLaws.{le-or-lt}
 use Rattle.meaning.proofs.Tells.{Tells, tells-leb, tells-eqb, tells-and, tells-or, tells-same, tells-decided}
 use Rattle.rules.specs.Refusals.{Refused}
-use Rattle.lines.specs.Digits.{byteAt, byte0, byte9, byteA, byteF, isDigit, digitsAt, hexAt}
+use Rattle.lines.specs.Digits.{byteAt, byte0, byte9, byteA, byteF, byteDigits, byteValues, isDigit, digitsAt, hexAt}
 use Rattle.lines.specs.Line.{lineFeed, rightAt, sumAt, pastFirst, pastLineFeed, digitsOf, lineAt}
 use Rattle.lines.specs.Read.{Said, end, numbers, refusal, Read, bytesOf, numbersAt, readLine}
 use Rattle.lines.specs.Frame.{frameWidths}
 use Rattle.lines.specs.Rule.{ruleWidths}
 use Rattle.lines.proofs.DigitLaws.{digitsAt-most}
 use Rattle.lines.proofs.LineLaws.{next-past}
-use Rattle.promises.specs.Reading.{Digit, number, letter, byteValues, WellFormed, SumRight, LineRefused, eight, nine, LineGood, SaidExactly, dataBytes, counterAndMask, ruleNumbers, ReadRefusedExactly, NoLineFeed, Past, first, none, PlaceMoves}
+use Rattle.promises.specs.Reading.{Digit, number, letter, WellFormed, SumRight, LineRefused, eight, nine, LineGood, SaidExactly, dataBytes, counterAndMask, ruleNumbers, ReadRefusedExactly, NoLineFeed, Past, first, none, PlaceMoves}
 use Rattle.promises.proofs.Deciding.{told-true, told-false}
 
 digit-told : (byte : ℕ) → Tells (isDigit byte) (Digit byte)
@@ -82,7 +82,7 @@ module _ (widths : List ℕ) (shows : List ℕ → ℕ → List ℕ) (same : (te
         (full-told _ (digitsAt text place (digitsOf bytes)) (digitsOf bytes) (digitsAt-most text place (digitsOf bytes))
         (tells-and (digits-told text place (digitsOf bytes)) (tells-eqb (byteAt text (place + digitsOf bytes)) lineFeed)))
 
-    sum-told : Tells (eqb (sumAt text place bytes % byteValues) (hexAt text (place + 2 * bytes) 2)) (SumRight bytes text place)
+    sum-told : Tells (eqb (sumAt text place bytes % byteValues) (hexAt text (place + byteDigits * bytes) byteDigits)) (SumRight bytes text place)
     sum-told = tells-eqb _ _
 
     -- A digit is not missing, so a well formed line is before the end.

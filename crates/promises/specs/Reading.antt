@@ -7,7 +7,7 @@ use Prim.Native.Nat.{ℕ, _+_, _*_, _%_, _≤_, _<_}
 use lib.ListN.{length}
 use Rattle.rules.specs.Refusals.{Refused, refused}
 use Rattle.rules.specs.declared.refusal.Refusal.the-variants.{Line, Sum}
-use Rattle.lines.specs.Digits.{byteAt, byte0, byte9, byteA, byteF, hexAt}
+use Rattle.lines.specs.Digits.{byteAt, byte0, byte9, byteA, byteF, byteDigits, byteValues, hexAt}
 use Rattle.lines.specs.Line.{lineFeed, sumAt, digitsOf}
 use Rattle.lines.specs.Read.{end, numbers, refusal, Read}
 use Rattle.lines.specs.Frame.{readFrame}
@@ -18,18 +18,15 @@ pub data Digit (byte : ℕ) : Type 0 where
   number : byte0 ≤ byte → byte ≤ byte9 → Digit byte
   letter : byteA ≤ byte → byte ≤ byteF → Digit byte
 
--- A line has data bytes, two digits each, then "sum (2) of the .. bytes modulo 256, line feed": 14 digits for the six bytes of a frame.
-abbrev pub byteValues : ℕ
-byteValues = 256
-
--- "14 digits 0-9 A-F and line feed there". A missing byte is neither.
+-- A line has data bytes, then "sum (2) of the .. bytes modulo 256, line feed": "14 digits 0-9 A-F and line feed there" for the six bytes of a frame.
+-- A missing byte is neither.
 pub record WellFormed (bytes : ℕ) (text : List ℕ) (place : ℕ) : Type 0 where
   pub digits : (i : ℕ) → i < digitsOf bytes → Digit (byteAt text (place + i))
   pub fed : byteAt text (place + digitsOf bytes) ≡ lineFeed
 
 -- The sum stands after the data bytes.
 abbrev pub SumRight : ℕ → List ℕ → ℕ → Type 0
-SumRight bytes text place = sumAt text place bytes % byteValues ≡ hexAt text (place + 2 * bytes) 2
+SumRight bytes text place = sumAt text place bytes % byteValues ≡ hexAt text (place + byteDigits * bytes) byteDigits
 
 -- 8: "place before the end, but no 14 digits 0-9 A-F and line feed there"; 9: "line well formed, its sum wrong".
 pub data LineRefused (bytes : ℕ) (text : List ℕ) (place : ℕ) : Refused → Type 0 where
