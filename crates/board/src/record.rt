@@ -68,6 +68,7 @@ fn is_readable(given: MukRecord) -> bool
     true
 }
 
+// The truths that the bytes tell.
 fn truths_of(bytes: [u8; ROW_LIMIT]) -> [bool; ROW_LIMIT]
     ensures { λ r. ⌜ r ≡ map truthOf bytes ⌝ }
 {
@@ -80,6 +81,7 @@ fn truths_of(bytes: [u8; ROW_LIMIT]) -> [bool; ROW_LIMIT]
     truths
 }
 
+// The bytes of the truths; the language has no function over both element types.
 fn truth_bytes(truths: [bool; ROW_LIMIT]) -> [u8; ROW_LIMIT]
     ensures { λ r. ⌜ r ≡ map byteOf truths ⌝ }
 {

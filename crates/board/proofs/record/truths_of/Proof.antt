@@ -1,5 +1,5 @@
--- `board::record::truths_of` meets its contract. The loop: the rows passed are converted; one turn is `converted-more`. The measure is what is left of
--- the rows. Assumes nothing.
+-- `board::record::truths_of` meets its contract. The loop: the rows passed are converted; one turn is `converted-more`. The measure is what is
+-- left of the rows. Assumes nothing.
 use Prim.Native.Nat.{_-_, _≤_}
 use mathlib.Core.Bool.{false}
 use mathlib.Core.Path.{_≡_, refl, _∙_}
