@@ -8,13 +8,13 @@ use borrow.Author.Tests.{lt-leb, ne-eqb, ltb-true, ltb-false}
 use lib.Dec.{leb, ltb, eqb}
 use lib.ListN.{length, take, drop, length-drop}
 use lib.Seq.{getD-take, getD-drop, length-take-le}
-use Rattle.rules.specs.Refusals.{Refused, refused}
-use Rattle.rules.specs.declared.refusal.Refusal.the-variants.{Line, Sum}
-use Rattle.rules.proofs.Truths.{and-false}
+use Rattle.refusals.specs.Refusals.{Refused, refused}
+use Rattle.refusals.specs.declared.refusal.Refusal.the-variants.{BadLine, BadSum}
+use Rattle.meaning.proofs.Truths.{and-false}
 use Rattle.lines.specs.Digits.{byteAt, byteDigits, byteValues, digitsAt, hexAt}
 use Rattle.lines.specs.Line.{lineFeed, rightAt, sumAt, pastFirst, pastLineFeed, digitsOf, lineAt}
-use Rattle.lines.specs.Read.{Said, end, numbers, refusal, bytesOf, numbersAt, readLine}
-use Rattle.lines.proofs.Tests.{by-test}
+use Rattle.lines.specs.Read.{LineReply, atEnd, goodLine, badLine, bytesOf, numbersRead, readLine}
+use Rattle.meaning.proofs.Truths.{by-test}
 use Rattle.lines.proofs.DigitLaws.{digitsAt-most}
 use Rattle.lines.proofs.LineLaws.{past-right}
 
@@ -56,14 +56,14 @@ module _ (first second : List ℕ) (from limit : ℕ) (same : (i : ℕ) → i < 
       rw (ends, right-agree (digitsOf n) within, start, sum-agree n (omega arith), hex-agree (byteDigits * n) byteDigits (omega arith))
 
   numbers-agree : (offset : ℕ) (widths : List ℕ) → offset + byteDigits * bytesOf widths ≤ limit
-      → numbersAt first from offset widths ≡ numbersAt second 0 offset widths
+      → numbersRead first from offset widths ≡ numbersRead second 0 offset widths
   numbers-agree offset [] within = refl
   numbers-agree offset (width ∷ widths) within =
       let start : 0 + offset ≡ offset = omega arith in
       rw (start, hex-agree offset (byteDigits * width) (omega arith), numbers-agree (offset + byteDigits * width) widths (omega arith))
 
 -- What is read of a line: the end, its numbers, or a refusal.
-pub said-by : (P : Said → Type 0) (widths line : List ℕ) → P end → P (numbers (numbersAt line 0 0 widths)) → ((fault : Refused) → P (refusal fault))
+pub said-by : (P : LineReply → Type 0) (widths line : List ℕ) → P atEnd → P (goodLine (numbersRead line 0 0 widths)) → ((fault : Refused) → P (badLine fault))
     → P (readLine widths line 0 .said)
 unfolding lineAt
 said-by P widths line ends good bad =
@@ -72,8 +72,8 @@ said-by P widths line ends good bad =
     (by-test (eqb (rightAt line 0 (digitsOf (bytesOf widths))) (digitsOf (bytesOf widths) + 1))
     (λ right. rw right
     (by-test (eqb (sumAt line 0 (bytesOf widths) % byteValues) (hexAt line (0 + byteDigits * bytesOf widths) byteDigits)) (λ is. rw is good)
-    (λ wrong. rw wrong (bad (refused Sum)))))
-    (λ wrong. rw wrong (bad (refused Line)))))
+    (λ wrong. rw wrong (bad (refused BadSum)))))
+    (λ wrong. rw wrong (bad (refused BadLine)))))
 
 -- A line as far as it is held reads as the line.
 pub said-held : (widths : List ℕ) (limit : ℕ) (line : List ℕ) → digitsOf (bytesOf widths) < limit
@@ -94,13 +94,13 @@ said-held widths limit line within =
 -- What is not as required is a bad line.
 said-bad : (widths text : List ℕ) (place : ℕ) → place < length text
     → (rightAt text place (digitsOf (bytesOf widths)) ≡ digitsOf (bytesOf widths) + 1 → ⊥)
-    → readLine widths text place .said ≡ refusal (refused Line)
+    → readLine widths text place .said ≡ badLine (refused BadLine)
 unfolding lineAt
 said-bad widths text place within wrong = rw (lt-leb _ _ within, ne-eqb _ _ wrong)
 
 -- A line without a line feed is a bad line.
 pub said-cut : (widths line : List ℕ) → 0 < length line → ((i : ℕ) → byteAt line i ≡ lineFeed → ⊥)
-    → readLine widths line 0 .said ≡ refusal (refused Line)
+    → readLine widths line 0 .said ≡ badLine (refused BadLine)
 unfolding rightAt
 said-cut widths line some free =
     let n : ℕ = digitsOf (bytesOf widths) in

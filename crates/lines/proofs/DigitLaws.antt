@@ -8,8 +8,8 @@ use native.Mathlib.Omega.{arith}
 use borrow.Author.Tests.{leb-true, leb-false, le-leb, lt-leb}
 use lib.Dec.{leb, lit<}
 use Rattle.lines.specs.Digits.{byteAt, byte0, byte9, byteA, byteF, isDigit, digitValue, digitsAt, hexAt}
-use Rattle.rules.proofs.Truths.{no-truth}
-use Rattle.lines.proofs.Tests.{by-test}
+use Rattle.meaning.proofs.Truths.{no-truth}
+use Rattle.meaning.proofs.Truths.{by-test}
 
 module _ (byte : ℕ) where
   pub digit-below : byte < byte0 → isDigit byte ≡ false

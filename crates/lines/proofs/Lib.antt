@@ -1,5 +1,4 @@
 -- Laws of the definitions in specs/; the proofs of the functions stand in the folders beside them.
-pub mod Tests
 pub mod DigitLaws
 pub mod OverLaws
 pub mod WriteLaws

@@ -10,8 +10,8 @@ use lib.ListN.{length, drop-of-length-le, List·getD-eq-default}
 use lib.Seq.{drop-cons}
 use Rattle.lines.specs.Digits.{byteAt, isDigit, digitsAt, hexAt}
 use Rattle.lines.specs.Line.{lineFeed, rightAt, sumAt, pastFirst, pastLineFeed, digitsOf, lineAt, nextPlace}
-use Rattle.rules.proofs.Truths.{and-left, and-right}
-use Rattle.lines.proofs.Tests.{by-test}
+use Rattle.meaning.proofs.Truths.{and-left, and-right}
+use Rattle.meaning.proofs.Truths.{by-test}
 use Rattle.lines.proofs.DigitLaws.{DigitRange, digit-range, hexAt-below, digitsAt-most}
 
 module _ (text : List ℕ) (place : ℕ) where

@@ -7,7 +7,7 @@ use lib.Dec.{eqb}
 use lib.ListN.{length, take, drop}
 use Rattle.lines.specs.Line.{lineFeed, pastFirst}
 use Rattle.lines.specs.Lines.{cutOff, linesGoingOn, linesOf}
-use Rattle.lines.proofs.Tests.{by-test}
+use Rattle.meaning.proofs.Truths.{by-test}
 
 cut-off : (line : List ℕ) (byte : ℕ) → cutOff (line ++ (byte ∷ [])) ≡ (line ++ (byte ∷ [])) ∷ []
 cut-off [] byte = refl

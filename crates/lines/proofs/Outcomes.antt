@@ -6,34 +6,35 @@ use mathlib.Core.Path.{_≡_, refl, ap}
 use Prim.Native.Nat.{ℕ}
 use lib.ListN.{getD}
 use denote.Ref.{now}
-use Rattle.rules.proofs.Outcomes.{one-value, one-said, refusalOf, refusal-back}
+use Rattle.meaning.proofs.OneValue.{one-value, one-said}
+use Rattle.refusals.proofs.Outcomes.{refusalOf, refusal-back}
 use Rattle.lines.specs.declared.frame.FrameRead.{FrameRead}
 use Rattle.lines.specs.declared.frame.FrameFound.{FrameFound}
 use Rattle.lines.specs.declared.frame.FrameFound.the-variants as frame
 use Rattle.lines.specs.declared.rule.RuleRead.{RuleRead}
 use Rattle.lines.specs.declared.rule.RuleFound.{RuleFound}
 use Rattle.lines.specs.declared.rule.RuleFound.the-variants as rule
-use Rattle.lines.specs.Digits.{Written}
-use Rattle.lines.specs.Read.{Said, end, numbers, refusal, Read}
+use Rattle.lines.specs.Digits.{DigitsWritten}
+use Rattle.lines.specs.Read.{LineReply, atEnd, goodLine, badLine, Read}
 use Rattle.lines.specs.Frame.{readFrame, frameFound, frameSaid}
 use Rattle.lines.specs.declared.reader.Reader.{Reader}
 use Rattle.lines.specs.Reader.{NextFrame}
 use Rattle.lines.specs.Rule.{readRule, ruleFound, ruleSaid}
 
-abbrev frameOf : Said → FrameFound
-frameOf end = frame.End
-frameOf (numbers given) = frame.Frame (getD given 0 0) (getD given 1 0)
-frameOf (refusal r) = frame.Refused (refusalOf r)
+abbrev frameOf : LineReply → FrameFound
+frameOf atEnd = frame.End
+frameOf (goodLine given) = frame.Frame (getD given 0 0) (getD given 1 0)
+frameOf (badLine r) = frame.Refused (refusalOf r)
 
 frame-undone : (f : FrameFound) → frameOf (frameFound f) ≡ f
 frame-undone frame.End = refl
 frame-undone (frame.Frame counter mask) = refl
 frame-undone (frame.Refused r) = ap frame.Refused (refusal-back r)
 
-abbrev ruleOf : Said → RuleFound
-ruleOf end = rule.End
-ruleOf (numbers given) = rule.Rule (getD given 0 0) (getD given 1 0) (getD given 2 0) (getD given 3 0) (getD given 4 0)
-ruleOf (refusal r) = rule.Refused (refusalOf r)
+abbrev ruleOf : LineReply → RuleFound
+ruleOf atEnd = rule.End
+ruleOf (goodLine given) = rule.Rule (getD given 0 0) (getD given 1 0) (getD given 2 0) (getD given 3 0) (getD given 4 0)
+ruleOf (badLine r) = rule.Refused (refusalOf r)
 
 rule-undone : (f : RuleFound) → ruleOf (ruleFound f) ≡ f
 rule-undone rule.End = refl
@@ -64,5 +65,5 @@ one-rule text place =
 
 -- `lines::digits::write_digits`: the answer, and every byte of what was lent.
 pub one-writing : (out : List ℕ) (place n value : ℕ) (done done′ : Bool) (after after′ : List ℕ)
-    → Written out place n value done after → Written out place n value done′ after′ → (done ≡ done′) × (after ≡ after′)
+    → DigitsWritten out place n value done after → DigitsWritten out place n value done′ after′ → (done ≡ done′) × (after ≡ after′)
 one-writing out place n value done done′ after after′ h h′ = (one-value (h .said) (h′ .said), one-value (h .bytes) (h′ .bytes))

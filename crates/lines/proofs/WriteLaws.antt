@@ -5,7 +5,7 @@ use Prim.Native.Nat.{ℕ, zero, suc, _+_, _/_, _%_, _<_}
 use native.Mathlib.Omega.{arith}
 use lib.ListN.{length, take, drop, set, length-append, length-set}
 use lib.Seq.{drop-cons, take-set-le, drop-set-lt, getD-set-same}
-use Rattle.lines.specs.Digits.{digits, digitByte, over}
+use Rattle.lines.specs.Digits.{digits, digitByte, overwritten}
 use Rattle.lines.proofs.OverLaws.{over-none}
 
 pub length-digits : (n value : ℕ) → length (digits n value) ≡ n
@@ -20,7 +20,7 @@ abbrev pub leftOver : List ℕ → ℕ → ℕ → ℕ → List ℕ
 leftOver out place n value = take place out ++ (digits n value ++ drop (place + n) out)
 
 module _ (out : List ℕ) (place n value : ℕ) where
-  pub left-over : leftOver out place n value ≡ over out place (digits n value)
+  pub left-over : leftOver out place n value ≡ overwritten out place (digits n value)
   left-over = rw length-digits
 
   -- One turn: the last digit is stored, and one fewer is left.

@@ -63,10 +63,10 @@ digits zero value = []
 digits (suc n) value = digits n (value / base) ++ (digitByte (value % base) ∷ [])
 
 -- The bytes at a place, over those that are there; every other byte stays.
-abbrev pub over : List ℕ → ℕ → List ℕ → List ℕ
-over out place bytes = take place out ++ (bytes ++ drop (place + length bytes) out)
+abbrev pub overwritten : List ℕ → ℕ → List ℕ → List ℕ
+overwritten out place bytes = take place out ++ (bytes ++ drop (place + length bytes) out)
 
 -- Digits are written where there is room for them; otherwise nothing is.
-pub record Written (out : List ℕ) (place n value : ℕ) (done : Bool) (after : List ℕ) : Type 0 where
+pub record DigitsWritten (out : List ℕ) (place n value : ℕ) (done : Bool) (after : List ℕ) : Type 0 where
   pub said : done ≡ leb (place + n) (length out)
-  pub bytes : after ≡ cond (leb (place + n) (length out)) (over out place (digits n value)) out
+  pub bytes : after ≡ cond (leb (place + n) (length out)) (overwritten out place (digits n value)) out

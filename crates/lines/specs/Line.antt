@@ -4,9 +4,9 @@ use mathlib.Core.List.{List, [], _∷_}
 use Prim.Native.Nat.{ℕ, zero, suc, _+_, _*_, _%_}
 use lib.Dec.{leb, eqb}
 use lib.ListN.{length, drop}
-use Rattle.rules.specs.declared.refusal.Refusal.the-variants as refusal
-use Rattle.lines.specs.declared.line.Line.{Line}
-use Rattle.lines.specs.declared.line.Line.the-variants.{End, Good, Refused}
+use Rattle.refusals.specs.declared.refusal.Refusal.the-variants as refusal
+use Rattle.lines.specs.declared.line.LineFound.{LineFound}
+use Rattle.lines.specs.declared.line.LineFound.the-variants.{End, Good, Refused}
 use Rattle.lines.specs.Digits.{byteAt, byteDigits, byteValues, digitsAt, hexAt}
 
 abbrev pub lineFeed : ℕ
@@ -37,15 +37,15 @@ abbrev pub digitsOf : ℕ → ℕ
 digitsOf n = byteDigits * n + byteDigits
 
 -- What stands at a place. 8: "place before the end, but no 14 digits 0-9 A-F and line feed there"; 9: "line well formed, its sum wrong".
-unfoldable pub lineAt : List ℕ → ℕ → ℕ → Line
+unfoldable pub lineAt : List ℕ → ℕ → ℕ → LineFound
 lineAt text place n =
     cond (leb (length text) place) End
     (cond (eqb (rightAt text place (digitsOf n)) (digitsOf n + 1))
-    (cond (eqb (sumAt text place n % byteValues) (hexAt text (place + byteDigits * n) byteDigits)) Good (Refused refusal.Sum))
-    (Refused refusal.Line))
+    (cond (eqb (sumAt text place n % byteValues) (hexAt text (place + byteDigits * n) byteDigits)) Good (Refused refusal.BadSum))
+    (Refused refusal.BadLine))
 
 -- "A place at or past the end answers "end", place unchanged. After a good line the place moves 15. After 8 or 9 it moves past the first line feed".
-abbrev pub nextPlace : Line → List ℕ → ℕ → ℕ → ℕ
+abbrev pub nextPlace : LineFound → List ℕ → ℕ → ℕ → ℕ
 nextPlace End text place n = place
 nextPlace Good text place n = place + (digitsOf n + 1)
 nextPlace (Refused r) text place n = pastLineFeed text place

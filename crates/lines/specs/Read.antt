@@ -1,22 +1,22 @@
 -- What reading a line gives, for every format: its numbers by their widths in bytes.
 use mathlib.Core.List.{List, [], _∷_}
 use Prim.Native.Nat.{ℕ, _+_, _*_}
-use Rattle.rules.specs.Refusals as refusals
-use Rattle.rules.specs.Refusals.{refused}
-use Rattle.lines.specs.declared.line.Line.{Line}
-use Rattle.lines.specs.declared.line.Line.the-variants.{End, Good, Refused}
+use Rattle.refusals.specs.Refusals as refusals
+use Rattle.refusals.specs.Refusals.{refused}
+use Rattle.lines.specs.declared.line.LineFound.{LineFound}
+use Rattle.lines.specs.declared.line.LineFound.the-variants.{End, Good, Refused}
 use Rattle.lines.specs.Digits.{byteDigits, hexAt}
 use Rattle.lines.specs.Line.{lineAt, nextPlace}
 
 -- The end, the numbers of a line, or a refusal with the paper's number.
-pub data Said : Type 0 where
-  end : Said
-  numbers : List ℕ → Said
-  refusal : refusals.Refused → Said
+pub data LineReply : Type 0 where
+  atEnd : LineReply
+  goodLine : List ℕ → LineReply
+  badLine : refusals.Refused → LineReply
 
 -- "number; next place".
 pub record Read : Type 0 where
-  pub said : Said
+  pub said : LineReply
   pub next : ℕ
 
 -- How many bytes the numbers have.
@@ -25,21 +25,21 @@ bytesOf [] = 0
 bytesOf (width ∷ widths) = width + bytesOf widths
 
 -- The numbers of a line at a place, from an offset on.
-abbrev pub numbersAt : List ℕ → ℕ → ℕ → List ℕ → List ℕ
-numbersAt text place offset [] = []
-numbersAt text place offset (width ∷ widths) =
-    hexAt text (place + offset) (byteDigits * width) ∷ numbersAt text place (offset + byteDigits * width) widths
+abbrev pub numbersRead : List ℕ → ℕ → ℕ → List ℕ → List ℕ
+numbersRead text place offset [] = []
+numbersRead text place offset (width ∷ widths) =
+    hexAt text (place + offset) (byteDigits * width) ∷ numbersRead text place (offset + byteDigits * width) widths
 
 -- What is said of a line, given its numbers.
-abbrev pub saidOf : Line → List ℕ → Said
-saidOf End given = end
-saidOf Good given = numbers given
-saidOf (Refused r) given = refusal (refused r)
+abbrev pub lineReply : LineFound → List ℕ → LineReply
+lineReply End given = atEnd
+lineReply Good given = goodLine given
+lineReply (Refused r) given = badLine (refused r)
 
 -- Reading a line whose numbers have these widths: what is said, and the next place.
 abbrev pub readLine : List ℕ → List ℕ → ℕ → Read
 readLine widths text place =
     record {
-      said = saidOf (lineAt text place (bytesOf widths)) (numbersAt text place 0 widths);
+      said = lineReply (lineAt text place (bytesOf widths)) (numbersRead text place 0 widths);
       next = nextPlace (lineAt text place (bytesOf widths)) text place (bytesOf widths);
     }

@@ -1,11 +1,11 @@
 -- A rule line read at a place (document 01, "The program's text"). Its five numbers are not judged.
 use mathlib.Core.List.{List, [], _∷_}
 use Prim.Native.Nat.{ℕ}
-use Rattle.rules.specs.Refusals.{refused}
+use Rattle.refusals.specs.Refusals.{refused}
 use Rattle.lines.specs.declared.rule.RuleRead.{RuleRead}
 use Rattle.lines.specs.declared.rule.RuleFound.{RuleFound}
 use Rattle.lines.specs.declared.rule.RuleFound.the-variants.{End, Rule, Refused}
-use Rattle.lines.specs.Read.{Said, end, numbers, refusal, Read, readLine}
+use Rattle.lines.specs.Read.{LineReply, atEnd, goodLine, badLine, Read, readLine}
 
 -- "kind 2 digits, x 2, y 2, a 8, b 8".
 abbrev pub ruleWidths : List ℕ
@@ -15,10 +15,10 @@ abbrev pub readRule : List ℕ → ℕ → Read
 readRule = readLine ruleWidths
 
 -- What the code's answer says, in the paper's numbers.
-abbrev pub ruleFound : RuleFound → Said
-ruleFound End = end
-ruleFound (Rule kind x y a b) = numbers (kind ∷ x ∷ y ∷ a ∷ b ∷ [])
-ruleFound (Refused r) = refusal (refused r)
+abbrev pub ruleFound : RuleFound → LineReply
+ruleFound End = atEnd
+ruleFound (Rule kind x y a b) = goodLine (kind ∷ x ∷ y ∷ a ∷ b ∷ [])
+ruleFound (Refused r) = badLine (refused r)
 
 abbrev pub ruleSaid : RuleRead → Read
 ruleSaid r = record { said = ruleFound (r .found); next = r .next }

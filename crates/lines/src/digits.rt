@@ -2,7 +2,7 @@
 
 ghost use mathlib.Core.Path.{_≡_};
 ghost use Prim.Native.Nat.{_+_, _≤_, _<_, _^_};
-ghost use Rattle.lines.specs.Digits.{byteAt, isDigit, digitValue, digitsAt, hexAt, digitByte, Written};
+ghost use Rattle.lines.specs.Digits.{byteAt, isDigit, digitValue, digitsAt, hexAt, digitByte, DigitsWritten};
 
 // How many of the n bytes at a place are digits, before the first that is not or is missing.
 pub(crate) fn digits_at(text: &[u8], place: usize, n: usize) -> usize
@@ -21,7 +21,7 @@ pub(crate) fn digits_at(text: &[u8], place: usize, n: usize) -> usize
 
 // Writes the n low digits of a value at a place. Where there is no room for them it writes nothing and says so.
 pub fn write_digits(out: &mut [u8], place: usize, n: usize, value: u64) -> bool
-    ensures { λ r. ⌜ Written (now (out .entry)) place n value r (now (out .exit)) ⌝ }
+    ensures { λ r. ⌜ DigitsWritten (now (out .entry)) place n value r (now (out .exit)) ⌝ }
 {
     if out.len() < place {
         return false;

@@ -3,9 +3,9 @@
 ghost use mathlib.Core.Path.{_≡_};
 ghost use Rattle.lines.specs.Frame.{readFrame, frameSaid};
 use crate::digits::hex_at;
-use crate::line::Line;
+use crate::line::LineFound;
 use crate::line::read_line;
-use rules::refusal::Refusal;
+use refusals::refusal::Refusal;
 
 // Counter and mask.
 const DATA_BYTES: usize = 6;
@@ -32,18 +32,18 @@ pub fn read_frame(text: &[u8], place: usize) -> FrameRead
     let next = read.next;
     let line = read.line;
     match line {
-        Line::End => FrameRead {
+        LineFound::End => FrameRead {
             found: FrameFound::End,
             next,
         },
-        Line::Good => FrameRead {
+        LineFound::Good => FrameRead {
             found: FrameFound::Frame {
                 counter: hex_at(text, place, 0, 4) as u16,
                 mask: hex_at(text, place, 4, 8) as u32,
             },
             next,
         },
-        Line::Refused(refusal) => FrameRead {
+        LineFound::Refused(refusal) => FrameRead {
             found: FrameFound::Refused(refusal),
             next,
         },

@@ -6,9 +6,9 @@ ghost use Rattle.lines.specs.Line.{rightAt, sumAt, pastLineFeed, lineAt,
 use crate::digits::byte_at;
 use crate::digits::digits_at;
 use crate::digits::hex_at;
-use rules::refusal::Refusal;
+use refusals::refusal::Refusal;
 
-pub(crate) enum Line {
+pub(crate) enum LineFound {
     // The place is at or past the end of the text.
     End,
     // The line is as required, and its sum is right.
@@ -19,7 +19,7 @@ pub(crate) enum Line {
 
 // What stands at a place, and the place to read at next.
 pub(crate) struct LineRead {
-    pub line: Line,
+    pub line: LineFound,
     pub next: usize,
 }
 
@@ -30,7 +30,7 @@ pub(crate) fn read_line(text: &[u8], place: usize, n: usize) -> LineRead
 {
     if text.len() <= place {
         return LineRead {
-            line: Line::End,
+            line: LineFound::End,
             next: place,
         };
     }
@@ -38,17 +38,17 @@ pub(crate) fn read_line(text: &[u8], place: usize, n: usize) -> LineRead
     if right_at(text, place, digits) == digits + 1 {
         if sum_at(text, place, n) % 256 == hex_at(text, place, 2 * n, 2) {
             return LineRead {
-                line: Line::Good,
+                line: LineFound::Good,
                 next: place + (digits + 1),
             };
         }
         return LineRead {
-            line: Line::Refused(Refusal::Sum),
+            line: LineFound::Refused(Refusal::BadSum),
             next: past_line_feed(text, place),
         };
     }
     LineRead {
-        line: Line::Refused(Refusal::Line),
+        line: LineFound::Refused(Refusal::BadLine),
         next: past_line_feed(text, place),
     }
 }

@@ -1,5 +1,5 @@
 // A reader that holds the captured text and its place in it (document 01, "Lines from the board"). `frame_at` makes one for a
-// single call; the reader is run through it (`lines_run`).
+// single call; the reader is run through it (`monitor_run`).
 
 ghost use mathlib.Core.Path.{_≡_};
 ghost use Rattle.lines.specs.Frame.{readFrame, frameSaid};

@@ -3,12 +3,15 @@
 ghost use mathlib.Core.Path.{_≡_};
 ghost use Rattle.lines.specs.Rule.{readRule, ruleSaid};
 use crate::digits::hex_at;
-use crate::line::Line;
+use crate::line::LineFound;
 use crate::line::read_line;
-use rules::refusal::Refusal;
+use refusals::refusal::Refusal;
 
 // Kind, x, y, a and b.
 const DATA_BYTES: usize = 11;
+
+// Two digits for each of them and for the sum, and the line feed.
+pub const LINE_BYTES: usize = 2 * DATA_BYTES + 2 + 1;
 
 pub enum RuleFound {
     // The place is at or past the end of the text.
@@ -38,11 +41,11 @@ pub fn read_rule(text: &[u8], place: usize) -> RuleRead
     let next = read.next;
     let line = read.line;
     match line {
-        Line::End => RuleRead {
+        LineFound::End => RuleRead {
             found: RuleFound::End,
             next,
         },
-        Line::Good => RuleRead {
+        LineFound::Good => RuleRead {
             found: RuleFound::Rule {
                 kind: hex_at(text, place, 0, 2) as u32,
                 x: hex_at(text, place, 2, 2) as u32,
@@ -52,7 +55,7 @@ pub fn read_rule(text: &[u8], place: usize) -> RuleRead
             },
             next,
         },
-        Line::Refused(refusal) => RuleRead {
+        LineFound::Refused(refusal) => RuleRead {
             found: RuleFound::Refused(refusal),
             next,
         },

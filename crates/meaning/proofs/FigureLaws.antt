@@ -12,7 +12,7 @@ use Rattle.meaning.specs.Interval.{End, upTo, noEnd, _≤End_, _+End_}
 use Rattle.meaning.specs.History.{Event, History, lastTime}
 use Rattle.meaning.specs.Formula.{truth, bit, Holds}
 use Rattle.meaning.specs.Computed.{holds?}
-use Rattle.meaning.specs.Spans.{Span, _to_, reach, clip, touches, join, update}
+use Rattle.meaning.specs.Spans.{Span, _to_, reachedFrom, clip, touches, join, update}
 use Rattle.meaning.specs.Runs.{Runs}
 use Rattle.meaning.specs.Sound.{SoundFrom, SoundEndless, SoundSpans, lengthOf}
 use Rattle.meaning.specs.Figure.{figure}
@@ -96,7 +96,7 @@ pub pulse-runs : (a : ℕ) (b : End) → a ≤End b
     → t ≤ time
     → NoLater t h
     → Runs (Holds truth) (Holds (bit 0)) a b h t S
-    → Runs (Holds truth) (Holds (bit 0)) a b (record { time = time; mask = 1 } ∷ h) time (update true true time (reach time a b) S)
+    → Runs (Holds truth) (Holds (bit 0)) a b (record { time = time; mask = 1 } ∷ h) time (update true true time (reachedFrom time a b) S)
 unfolding holds?
 pulse-runs a b order t time h S later none before =
     let e : Event = record { time = time; mask = 1 } in
@@ -105,7 +105,7 @@ pulse-runs a b order t time h S later none before =
 
 pub first-pulse : (a : ℕ) (b : End)
     → a ≤End b
-    → Runs (Holds truth) (Holds (bit 0)) a b (record { time = 0; mask = 1 } ∷ []) 0 (reach 0 a b ∷ [])
+    → Runs (Holds truth) (Holds (bit 0)) a b (record { time = 0; mask = 1 } ∷ []) 0 (reachedFrom 0 a b ∷ [])
 unfolding update clip join NoLater
 first-pulse a b order = pulse-runs a b order 0 0 [] [] (omega arith) tt (runs-none (Holds truth) (Holds (bit 0)) a b 0)
 
@@ -116,7 +116,7 @@ module _ (a b : ℕ) (order : a ≤ b) where
 
   whole : ℕ → List Span
   whole zero = []
-  whole (suc n) = whole n ++ (reach (pulseTime apart (suc n)) a (upTo b) ∷ [])
+  whole (suc n) = whole n ++ (reachedFrom (pulseTime apart (suc n)) a (upTo b) ∷ [])
 
   filled : ℕ → List Span
   filled n = (max (pulseTime apart n) a to upTo b) ∷ whole n
@@ -132,21 +132,21 @@ module _ (a b : ℕ) (order : a ≤ b) where
       let first : max t (max (pulseTime apart n) a) ≡ max t a = omega arith in rw (le-ltb b t within, first)
 
   -- A pulse later, the reach begins past a gap after the former reach.
-  reaches-apart : (t first : ℕ) → touches (first to upTo (t + b)) (reach (t + apart) a (upTo b)) ≡ false
+  reaches-apart : (t first : ℕ) → touches (first to upTo (t + b)) (reachedFrom (t + apart) a (upTo b)) ≡ false
   reaches-apart t first = lt-leb (t + apart + a) (t + b + 1) (omega arith)
 
   filled-next : (n : ℕ)
       → pulseTime apart (suc n) ≤ b
-      → update true true (pulseTime apart (suc n)) (reach (pulseTime apart (suc n)) a (upTo b)) (filled n) ≡ filled (suc n)
+      → update true true (pulseTime apart (suc n)) (reachedFrom (pulseTime apart (suc n)) a (upTo b)) (filled n) ≡ filled (suc n)
   unfolding filled whole update pulseTime
   filled-next zero within =
       let first = max (0 + apart) a in
-      let gap : touches (first to upTo b) (reach (0 + apart) a (upTo b)) ≡ false = rw (zero-add b) at (reaches-apart 0 first) in
-      rw (clip-filled (0 + apart) 0 (omega arith) within) (join-apart [] (first to upTo b) (reach (0 + apart) a (upTo b)) gap)
+      let gap : touches (first to upTo b) (reachedFrom (0 + apart) a (upTo b)) ≡ false = rw (zero-add b) at (reaches-apart 0 first) in
+      rw (clip-filled (0 + apart) 0 (omega arith) within) (join-apart [] (first to upTo b) (reachedFrom (0 + apart) a (upTo b)) gap)
   filled-next (suc n) within =
       let t = pulseTime apart n + apart in
       rw (clip-filled (t + apart) (suc n) (omega arith) within, append-assoc)
-      (join-apart ((max (t + apart) a to upTo b) ∷ whole n) (reach t a (upTo b)) (reach (t + apart) a (upTo b)) (reaches-apart t (t + a)))
+      (join-apart ((max (t + apart) a to upTo b) ∷ whole n) (reachedFrom t a (upTo b)) (reachedFrom (t + apart) a (upTo b)) (reaches-apart t (t + a)))
 
   pulses-fill : (n : ℕ)
       → pulseTime apart n ≤ b
@@ -177,4 +177,4 @@ figure-is-filled a (upTo b) order =
       rw pulses-last (pulses-fill a b order n within),
       rw (filled-length a b order n, add-one),
     )
-figure-is-filled a noEnd order = (reach 0 a noEnd ∷ [], first-pulse a noEnd order, refl)
+figure-is-filled a noEnd order = (reachedFrom 0 a noEnd ∷ [], first-pulse a noEnd order, refl)

@@ -1,4 +1,6 @@
 -- The laws of the definitions in specs/, in the order in which they build on each other.
+pub mod Truths
+pub mod OneValue
 pub mod Tells
 pub mod FormulaLaws
 pub mod NumberedLaws

@@ -9,7 +9,7 @@ use native.Mathlib.Omega.{arith}
 use Rattle.meaning.specs.Interval.{End, upTo, noEnd, _≤End_, _+End_}
 use Rattle.meaning.specs.History.{Event, History, lastTime}
 use Rattle.meaning.specs.Formula.{Formula, since, Reached, Holds}
-use Rattle.meaning.specs.Spans.{Span, In, Rising, reach, clip, join, update}
+use Rattle.meaning.specs.Spans.{Span, In, Rising, reachedFrom, clip, join, update}
 use Rattle.meaning.specs.Runs.{Runs}
 use Rattle.meaning.proofs.Tells.{Tells}
 use Rattle.meaning.proofs.FormulaLaws.{reached-later, reached-at-once, reached-before, reached-never}
@@ -81,7 +81,7 @@ module _ (x y : History → Type 0) (a : ℕ) (b : End) (order : a ≤End b) (e 
   unfolding In Rising Under
   kept-false never = record { rising = tt; under = tt; exact = λ u. (λ inside. absurd inside, λ all. absurd (never (all .1))) }
 
-  fed-true : (S : List Span) → y (e ∷ h) → Kept S → Runs x y a b (e ∷ h) (e .time) (join (reach (e .time) a b) S)
+  fed-true : (S : List Span) → y (e ∷ h) → Kept S → Runs x y a b (e ∷ h) (e .time) (join (reachedFrom (e .time) a b) S)
   fed-true S now kept =
       let first = e .time + a in
       let last = e .time +End b in
@@ -130,7 +130,7 @@ module _ (x y : History → Type 0) (a : ℕ) (b : End) (order : a ≤End b) (e 
       → Tells y? (y (e ∷ h))
       → t ≤ e .time
       → Runs x y a b h t S
-      → Runs x y a b (e ∷ h) (e .time) (update x? y? (e .time) (reach (e .time) a b) S)
+      → Runs x y a b (e ∷ h) (e .time) (update x? y? (e .time) (reachedFrom (e .time) a b) S)
   unfolding update
   runs-event true true t S keep feed later before =
       fed-true (clip (e .time) S) (feed .sound tt) (kept-true t S later (keep .sound tt) before)

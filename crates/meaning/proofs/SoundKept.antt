@@ -8,7 +8,7 @@ use Prim.Native.Nat.{ℕ, suc, _+_, _≤_, max}
 use native.Mathlib.Omega.{arith}
 use lib.ListN.{length}
 use Rattle.meaning.specs.Interval.{End, upTo, noEnd, _≤End_, _+End_}
-use Rattle.meaning.specs.Spans.{Span, _to_, reach, clip, join, update}
+use Rattle.meaning.specs.Spans.{Span, _to_, reachedFrom, clip, join, update}
 use Rattle.meaning.specs.Sound.{SoundFrom, SoundEndless, SoundSpans, lengthOf}
 use Rattle.meaning.proofs.SoundLaws.{none-sound}
 use Rattle.meaning.specs.Figure.{figure}
@@ -111,7 +111,7 @@ clip-sound now t event later latestFirst laterFirst long noEnd S present seen fi
 
 join-sound : (t a latestFirst : ℕ) (b : End) (S : List Span) → a ≤End b → t + a ≤ latestFirst
     → SoundSpans t latestFirst (t +End b) (lengthOf a b) S
-    → SoundSpans t latestFirst (t +End b) (lengthOf a b) (join (reach t a b) S)
+    → SoundSpans t latestFirst (t +End b) (lengthOf a b) (join (reachedFrom t a b) S)
 unfolding SoundSpans SoundFrom join
 join-sound t a latestFirst (upTo b) [] order room sound = (omega arith, omega arith, omega arith, (λ after. omega arith), tt)
 join-sound t a latestFirst (upTo b) (p ∷ S) order room sound = join-from t t (t + b) _ (t + a) p S (omega arith) sound
@@ -125,7 +125,7 @@ pub sound-kept : (keep feed : Bool) (now t event a latestFirst laterFirst : ℕ)
     → latestFirst ≤ laterFirst
     → t + a ≤ laterFirst
     → SoundSpans now latestFirst (event +End b) (lengthOf a b) S
-    → SoundSpans t laterFirst (t +End b) (lengthOf a b) (update keep feed t (reach t a b) S)
+    → SoundSpans t laterFirst (t +End b) (lengthOf a b) (update keep feed t (reachedFrom t a b) S)
 unfolding update
 sound-kept keep feed now t event a latestFirst laterFirst b S order present seen room reached sound = go keep feed
   where
@@ -136,7 +136,7 @@ sound-kept keep feed now t event a latestFirst laterFirst b S order present seen
     kept true = clipped
     kept false = none-sound t laterFirst (t +End b) (lengthOf a b)
 
-    go : (keep feed : Bool) → SoundSpans t laterFirst (t +End b) (lengthOf a b) (update keep feed t (reach t a b) S)
+    go : (keep feed : Bool) → SoundSpans t laterFirst (t +End b) (lengthOf a b) (update keep feed t (reachedFrom t a b) S)
     go keep true = join-sound t a laterFirst b (cond keep (clip t S) []) order reached (kept keep)
     go keep false = kept keep
 
@@ -146,7 +146,7 @@ pub update-fits : (keep feed : Bool) (now t event a latestFirst : ℕ) (b : End)
     → now ≤ t
     → event ≤ t
     → SoundSpans now latestFirst (event +End b) (lengthOf a b) S
-    → length (update keep feed t (reach t a b) S) ≤ figure a b
+    → length (update keep feed t (reachedFrom t a b) S) ≤ figure a b
 update-fits keep feed now t event a latestFirst b S order present seen sound =
-    figure-is-enough t (max latestFirst (t + a)) t a b (update keep feed t (reach t a b) S) (omega arith)
+    figure-is-enough t (max latestFirst (t + a)) t a b (update keep feed t (reachedFrom t a b) S) (omega arith)
     (sound-kept keep feed now t event a latestFirst (max latestFirst (t + a)) b S order present seen (omega arith) (omega arith) sound)

@@ -4,7 +4,7 @@ use mathlib.Core.List.{List, [], _∷_}
 use mathlib.Core.Path.{_≡_}
 use Prim.Native.Nat.{ℕ}
 use Rattle.meaning.specs.Interval.{upTo, noEnd}
-use Rattle.meaning.specs.History.{History}
+use Rattle.meaning.specs.History.{Event, History}
 use Rattle.meaning.specs.Formula.{Formula, truth, bit, either, previous, since, once, Holds}
 use Rattle.meaning.specs.Spans.{_to_}
 use Rattle.meaning.specs.Runs.{Runs}
@@ -92,8 +92,12 @@ numbers =
     -- "first event, x false, y true: since [0,5] yes, [1,5] no"; x is p and y is q
     ∷ Holds (since p q 0 (upTo 5)) (withQ 7 [])
     ∷ (¬ Holds (since p q 1 (upTo 5)) (withQ 7 []))
-    -- "previous [0, no end] at the first event: no"
+    -- the same for every x, y and event
+    ∷ ((x y : Formula) (e : Event) → ¬ Holds x (e ∷ []) → Holds y (e ∷ []) → Holds (since x y 0 (upTo 5)) (e ∷ []))
+    ∷ ((x y : Formula) (e : Event) → ¬ Holds x (e ∷ []) → Holds y (e ∷ []) → ¬ Holds (since x y 1 (upTo 5)) (e ∷ []))
+    -- "previous [0, no end] at the first event: no", and for every x and event
     ∷ (¬ Holds (previous truth 0 noEnd) (withP 7 []))
+    ∷ ((x : Formula) (e : Event) → ¬ Holds (previous x 0 noEnd) (e ∷ []))
     -- "events at 5 with p and 5 without: at the second, once [0,0] p yes, previous [0,0] p yes"
     ∷ Holds (once p 0 (upTo 0)) twice5
     ∷ Holds (previous p 0 (upTo 0)) twice5

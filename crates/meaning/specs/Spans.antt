@@ -24,8 +24,8 @@ Rising least ((first to upTo last) ∷ S) = (least ≤ first) × (first ≤ last
 Rising least ((first to noEnd) ∷ S) = (least ≤ first) × (S ≡ [])
 
 -- The span that an event at t reaches: "t+a to t+b".
-abbrev pub reach : ℕ → ℕ → End → Span
-reach t a b = (t + a) to (t +End b)
+abbrev pub reachedFrom : ℕ → ℕ → End → Span
+reachedFrom t a b = (t + a) to (t +End b)
 
 -- "clipped at t and ended ones dropped". In a rising list the ended spans come first, and only the first that is left can begin before t.
 abbrev pub ended : ℕ → End → Bool

@@ -1,21 +1,28 @@
 -- Laws of the table of kinds: the code's lines are those of the table, what the tests of a row's numbers tell, and that the rows which a row that
 -- passes speaks of are lower.
-use mathlib.Core.Bool.{Bool, true, false, _&&_}
+use mathlib.Core.Bool.{Bool, true, false, not, _&&_}
 use mathlib.Core.List.{List, [], _∷_, map}
-use mathlib.Core.Path.{_≡_, refl, _∙_}
-use Prim.Native.Nat.{ℕ, zero, suc, _<_}
+use mathlib.Core.Path.{_≡_, refl, sym, _∙_}
+use Prim.Native.Nat.{ℕ, zero, suc, _≤_, _<_}
+use native.Mathlib.Omega.{arith}
 use native.Mathlib.Nat.{le-of-suc-le-suc, not-suc-le-zero}
 use lib.ListN.{length, getD, List·getD-map}
 use Rattle.meaning.proofs.Tells.{Tells, tells-ltb, tells-eqb, tells-and, tells-same}
 use Rattle.rules.specs.Limits.{maskBits}
-use Rattle.rules.specs.Kinds.{Plain, truth, bit, negation, both, either, previous, Source, rowX, rowY, Rule, plain, stretch, Kind, kind, kinds, kindAt, lineOf, fits}
-use Rattle.rules.specs.Rows.{ruleOf, named}
+use Rattle.rules.specs.Kinds.{Rule, plain, stretch, Kind, kind, kinds, kindAt, hasStretch, columnsOf, plainOf, kindLine, fits}
+use Rattle.rules.specs.declared.plain.Plain.{Plain}
+use Rattle.rules.specs.declared.plain.Plain.the-variants as Plain
+use Rattle.rules.specs.Rows.{ruleOf, feeder}
 use Rattle.rules.specs.Table.{rowPasses}
 use Rattle.rules.specs.declared.kinds.Use.{Use}
 use Rattle.rules.specs.declared.kinds.Use.the-variants.{Unused, Bit, Lower, Limit}
-use Rattle.rules.specs.declared.kinds.Line.{Line}
+use Rattle.rules.specs.declared.kinds.KindLine.{KindLine}
 use Rattle.rules.specs.declared.numbers.Numbers.{Numbers}
-use Rattle.rules.proofs.Truths.{no-truth, and-left, and-right}
+use Rattle.rules.specs.declared.stretch.Keep.{Keep}
+use Rattle.rules.specs.declared.stretch.Keep.the-variants.{Unasked, WhileX, WhileY}
+use Rattle.rules.specs.declared.stretch.Feed.{Feed}
+use Rattle.rules.specs.declared.stretch.Feed.the-variants.{FromX, FromY}
+use Rattle.meaning.proofs.Truths.{no-truth, and-left, and-right}
 
 -- Within a list nothing is read in place of an entry.
 getD-any : {A : Type 0} (l : List A) (k : ℕ) (d e : A) → k < length l → getD l k d ≡ getD l k e
@@ -24,11 +31,20 @@ getD-any (a ∷ l) zero d e h = refl
 getD-any (a ∷ l) (suc k) d e h = getD-any l k d e (le-of-suc-le-suc h)
 
 -- The code's table is the table of kinds, line by line.
-pub line-at : (k : ℕ) (other : Line) → k < length (map lineOf kinds) → getD (map lineOf kinds) k other ≡ lineOf (kindAt k)
+pub line-at : (k : ℕ) (other : KindLine) → k < length (map kindLine kinds) → getD (map kindLine kinds) k other ≡ kindLine (kindAt k)
 unfolding kindAt
 line-at k other h =
-    getD-any (map lineOf kinds) k other (lineOf (kind Unused Unused Unused Unused (plain truth))) h
-    ∙ List·getD-map lineOf kinds k (kind Unused Unused Unused Unused (plain truth))
+    getD-any (map kindLine kinds) k other (kindLine (kind Unused Unused Unused Unused (plain Plain.Truth))) h
+    ∙ List·getD-map kindLine kinds k (kind Unused Unused Unused Unused (plain Plain.Truth))
+
+-- What a row says, by the column that tells whether it owns a stretch.
+pub owned-rule : (rule : Rule) → hasStretch rule ≡ true → rule ≡ stretch (columnsOf rule)
+owned-rule (plain says) h = absurd (no-truth h)
+owned-rule (stretch columns) h = refl
+
+pub bare-rule : (rule : Rule) → hasStretch rule ≡ false → rule ≡ plain (plainOf rule)
+bare-rule (plain says) h = refl
+bare-rule (stretch columns) h = absurd (no-truth (sym h))
 
 -- What a rule asks of the line that has it: the rows that it speaks of are used as lower rows, and its bit as a bit.
 abbrev isLower : Use → Bool
@@ -43,35 +59,40 @@ isBit Bit = true
 isBit Lower = false
 isBit Limit = false
 
-abbrev sourceLower : Kind → Source → Bool
-sourceLower k rowX = isLower (k .x)
-sourceLower k rowY = isLower (k .y)
+abbrev keeperRight : Kind → Keep → Bool
+keeperRight k Unasked = true
+keeperRight k WhileX = isLower (k .x)
+keeperRight k WhileY = isLower (k .y)
+
+abbrev feederRight : Kind → Feed → Bool
+feederRight k FromX = isLower (k .x)
+feederRight k FromY = isLower (k .y)
 
 abbrev plainRight : Kind → Plain → Bool
-plainRight k truth = true
-plainRight k bit = isBit (k .x)
-plainRight k negation = isLower (k .x)
-plainRight k both = isLower (k .x) && isLower (k .y)
-plainRight k either = isLower (k .x) && isLower (k .y)
-plainRight k previous = isLower (k .x)
+plainRight k Plain.Truth = true
+plainRight k Plain.Bit = isBit (k .x)
+plainRight k Plain.Negation = isLower (k .x)
+plainRight k Plain.Both = isLower (k .x) && isLower (k .y)
+plainRight k Plain.Either = isLower (k .x) && isLower (k .y)
+plainRight k Plain.Previous = isLower (k .x)
 
 abbrev ruleRight : Kind → Rule → Bool
 ruleRight k (plain says) = plainRight k says
-ruleRight k (stretch keep feed) = sourceLower k keep && sourceLower k feed
+ruleRight k (stretch columns) = keeperRight k (columns .keep) && feederRight k (columns .feed)
 
-abbrev every : List Kind → Bool
-every [] = true
-every (k ∷ l) = ruleRight k (k .rule) && every l
+-- A test that every line of the table passes, computed over all of them, is passed by the line of each kind.
+abbrev every : (Kind → Bool) → List Kind → Bool
+every test [] = true
+every test (k ∷ l) = test k && every test l
 
--- The test, computed over all kinds, decoded for each.
-right-at : (l : List Kind) (n : ℕ) (other : Kind) → every l ≡ true → n < length l → ruleRight (getD l n other) (getD l n other .rule) ≡ true
-right-at [] n other h lower = absurd (not-suc-le-zero lower)
-right-at (k ∷ l) zero other h lower = and-left (ruleRight k (k .rule)) (every l) h
-right-at (k ∷ l) (suc n) other h lower = right-at l n other (and-right (ruleRight k (k .rule)) (every l) h) (le-of-suc-le-suc lower)
+passed-at : (test : Kind → Bool) (l : List Kind) (n : ℕ) (other : Kind) → every test l ≡ true → n < length l → test (getD l n other) ≡ true
+passed-at test [] n other h lower = absurd (not-suc-le-zero lower)
+passed-at test (k ∷ l) zero other h lower = and-left (test k) (every test l) h
+passed-at test (k ∷ l) (suc n) other h lower = passed-at test l n other (and-right (test k) (every test l) h) (le-of-suc-le-suc lower)
 
-kinds-right : (n : ℕ) → n < length kinds → ruleRight (kindAt n) (kindAt n .rule) ≡ true
+pub kinds-pass : (test : Kind → Bool) → every test kinds ≡ true → (n : ℕ) → n < length kinds → test (kindAt n) ≡ true
 unfolding kindAt
-kinds-right n lower = right-at kinds n _ refl lower
+kinds-pass test computed n lower = passed-at test kinds n _ computed lower
 
 -- What a number that fits its use is.
 abbrev pub Fits : ℕ → Use → ℕ → Type 0
@@ -125,39 +146,78 @@ bit-told r Limit number h fit = absurd (no-truth h)
 
 -- "A row may name only lower rows", and "x 0 to 31": by what the row says.
 abbrev pub PlainNames : ℕ → Numbers → Plain → Type 0
-PlainNames r row truth = Unit
-PlainNames r row bit = row .x < maskBits
-PlainNames r row negation = row .x < r
-PlainNames r row both = (row .x < r) × (row .y < r)
-PlainNames r row either = (row .x < r) × (row .y < r)
-PlainNames r row previous = row .x < r
+PlainNames r row Plain.Truth = Unit
+PlainNames r row Plain.Bit = row .x < maskBits
+PlainNames r row Plain.Negation = row .x < r
+PlainNames r row Plain.Both = (row .x < r) × (row .y < r)
+PlainNames r row Plain.Either = (row .x < r) × (row .y < r)
+PlainNames r row Plain.Previous = row .x < r
+
+abbrev pub KeeperLower : ℕ → Numbers → Keep → Type 0
+KeeperLower r row Unasked = Unit
+KeeperLower r row WhileX = row .x < r
+KeeperLower r row WhileY = row .y < r
 
 abbrev pub Names : ℕ → Numbers → Rule → Type 0
 Names r row (plain says) = PlainNames r row says
-Names r row (stretch keep feed) = (named keep row < r) × (named feed row < r)
+Names r row (stretch columns) = KeeperLower r row (columns .keep) × (feeder (columns .feed) row < r)
 
 module _ (r : ℕ) (row : Numbers) (k : Kind) (fit : AllFit r k row) where
-  source-lower : (s : Source) → sourceLower k s ≡ true → named s row < r
-  source-lower rowX h = lower-told r (k .x) (row .x) h (fit .x)
-  source-lower rowY h = lower-told r (k .y) (row .y) h (fit .y)
+  x-lower : isLower (k .x) ≡ true → row .x < r
+  x-lower h = lower-told r (k .x) (row .x) h (fit .x)
+
+  y-lower : isLower (k .y) ≡ true → row .y < r
+  y-lower h = lower-told r (k .y) (row .y) h (fit .y)
+
+  keeper-lower : (keep : Keep) → keeperRight k keep ≡ true → KeeperLower r row keep
+  keeper-lower Unasked h = tt
+  keeper-lower WhileX h = x-lower h
+  keeper-lower WhileY h = y-lower h
+
+  feeder-lower : (feed : Feed) → feederRight k feed ≡ true → feeder feed row < r
+  feeder-lower FromX h = x-lower h
+  feeder-lower FromY h = y-lower h
 
   plain-names : (says : Plain) → plainRight k says ≡ true → PlainNames r row says
-  plain-names truth h = tt
-  plain-names bit h = bit-told r (k .x) (row .x) h (fit .x)
-  plain-names negation h = source-lower rowX h
-  plain-names both h =
-      (source-lower rowX (and-left (isLower (k .x)) (isLower (k .y)) h), source-lower rowY (and-right (isLower (k .x)) (isLower (k .y)) h))
-  plain-names either h =
-      (source-lower rowX (and-left (isLower (k .x)) (isLower (k .y)) h), source-lower rowY (and-right (isLower (k .x)) (isLower (k .y)) h))
-  plain-names previous h = source-lower rowX h
+  plain-names Plain.Truth h = tt
+  plain-names Plain.Bit h = bit-told r (k .x) (row .x) h (fit .x)
+  plain-names Plain.Negation h = x-lower h
+  plain-names Plain.Both h =
+      (x-lower (and-left (isLower (k .x)) (isLower (k .y)) h), y-lower (and-right (isLower (k .x)) (isLower (k .y)) h))
+  plain-names Plain.Either h =
+      (x-lower (and-left (isLower (k .x)) (isLower (k .y)) h), y-lower (and-right (isLower (k .x)) (isLower (k .y)) h))
+  plain-names Plain.Previous h = x-lower h
 
   rule-names : (rule : Rule) → ruleRight k rule ≡ true → Names r row rule
   rule-names (plain says) h = plain-names says h
-  rule-names (stretch keep feed) h = (
-    source-lower keep (and-left (sourceLower k keep) (sourceLower k feed) h),
-    source-lower feed (and-right (sourceLower k keep) (sourceLower k feed) h),
+  rule-names (stretch columns) h = (
+    keeper-lower (columns .keep) (and-left (keeperRight k (columns .keep)) (feederRight k (columns .feed)) h),
+    feeder-lower (columns .feed) (and-right (keeperRight k (columns .keep)) (feederRight k (columns .feed)) h),
   )
 
 -- The rows that a row speaks of are lower, for every kind of the table.
 pub names-lower : (r : ℕ) (row : Numbers) → RowFits r row → Names r row (ruleOf row)
-names-lower r row fits = rule-names r row (kindAt (row .kind)) (fits .all) (ruleOf row) (kinds-right (row .kind) (fits .known))
+names-lower r row fits = rule-names r row (kindAt (row .kind)) (fits .all) (ruleOf row)
+    (kinds-pass (λ (k : Kind). ruleRight k (k .rule)) refl (row .kind) (fits .known))
+
+-- x and y are no limits in any kind, so both are below every bound that is over 31 and not below the row.
+abbrev isLimit : Use → Bool
+isLimit Unused = false
+isLimit Bit = false
+isLimit Lower = false
+isLimit Limit = true
+
+no-limit-below : (r most : ℕ) (usage : Use) (number : ℕ) → r ≤ most → maskBits ≤ most → not (isLimit usage) ≡ true → Fits r usage number → number < most
+no-limit-below r most Unused number few wide h fit = omega arith
+no-limit-below r most Bit number few wide h fit = omega arith
+no-limit-below r most Lower number few wide h fit = omega arith
+no-limit-below r most Limit number few wide h fit = absurd (no-truth h)
+
+pub x-and-y-below : (r most : ℕ) (row : Numbers) → r ≤ most → maskBits ≤ most → RowFits r row → (row .x < most) × (row .y < most)
+x-and-y-below r most row few wide fits =
+    let k : Kind = kindAt (row .kind) in
+    let both : (not (isLimit (k .x)) && not (isLimit (k .y))) ≡ true =
+    kinds-pass (λ (k : Kind). not (isLimit (k .x)) && not (isLimit (k .y))) refl (row .kind) (fits .known) in (
+      no-limit-below r most (k .x) (row .x) few wide (and-left (not (isLimit (k .x))) (not (isLimit (k .y))) both) (fits .all .x),
+      no-limit-below r most (k .y) (row .y) few wide (and-right (not (isLimit (k .x))) (not (isLimit (k .y))) both) (fits .all .y),
+    )

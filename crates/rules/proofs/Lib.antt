@@ -1,5 +1,4 @@
 -- Laws of the rule table, for its functions and for callers. The functions' own proofs stand in folders of their names.
-pub mod Truths
 pub mod KindsLaws
 pub mod RowsLaws
 pub mod FigureLaws

@@ -12,15 +12,16 @@ use borrow.Author.Tests.{eq-eqb, ne-eqb}
 use Rattle.meaning.specs.Interval.{End, upTo, noEnd, endOf, noEndNumber, _≤End_}
 use Rattle.meaning.specs.Figure.{figure}
 use Rattle.meaning.proofs.Tells.{Tells, tells-leb, tells-eqb, tells-and, tells-or, tells-same, tells-passed}
-use Rattle.rules.specs.Limits.{rowNumbers, rowLimit, longest, spanWords}
+use Rattle.spans.specs.Layout.{spanWords}
+use Rattle.rules.specs.Limits.{rowNumbers, rowLimit, longest}
 use Rattle.rules.specs.Rows.{rowsOf, numbersAt, ruleOf}
 use Rattle.rules.specs.Stretches.{width, offset, needOf}
-use Rattle.rules.specs.Refusals.{Refused, refused}
-use Rattle.rules.specs.Table.{lengthPasses, rowPasses, limitsPass, faultOf, firstFault, passed, refusedBy, saidOf, checkOf}
+use Rattle.refusals.specs.Refusals.{Refused, refused}
+use Rattle.rules.specs.Table.{lengthPasses, rowPasses, limitsPass, faultOf, firstFault, passed, refusedBy, checkReplyBy, checkOf}
 use Rattle.rules.specs.RowFormula.{madeOf, formulaOf}
 use Rattle.rules.specs.declared.numbers.Numbers.{Numbers}
-use Rattle.rules.specs.declared.refusal.Refusal.the-variants.{Length, Row, Limits}
-use Rattle.rules.proofs.Truths.{zero-not-one}
+use Rattle.refusals.specs.declared.refusal.Refusal.the-variants.{Length, Row, Limits}
+use Rattle.meaning.proofs.Truths.{zero-not-one}
 use Rattle.rules.proofs.KindsLaws.{RowFits, row-fits-told, Names, names-lower}
 use Rattle.rules.proofs.TableLaws.{or-none, whole-rows-told}
 use Rattle.rules.proofs.RowFormulaLaws.{formula-made}
@@ -127,7 +128,7 @@ offset-most table (suc n) good =
 -- A table that passes, by the answer of its check.
 answer-parts :
     (p : Bool) (o : Option Refused) (refusal : Refused) (n m rows need : ℕ)
-    → cond p (saidOf o n m) (refusedBy refusal) ≡ passed rows need
+    → cond p (checkReplyBy o n m) (refusedBy refusal) ≡ passed rows need
     → (p ≡ true) × (o ≡ none) × (rows ≡ n) × (need ≡ m)
 answer-parts true none refusal n m rows need h = (refl, refl, (cc), (cc))
 answer-parts true (some fault) refusal n m rows need h = absurd (zero-not-one cc)

@@ -17,12 +17,12 @@ use Rattle.rules.proofs.FigureLaws.{figure-most}
 -- The spans of a row by the column of the table that says whether it owns a stretch.
 pub spans-by-column : (rule : Rule) (row : Numbers) → spansSaid rule row ≡ cond (hasStretch rule) (figure (row .a) (endOf (row .b))) 0
 spans-by-column (plain says) row = refl
-spans-by-column (stretch keep feed) row = refl
+spans-by-column (stretch columns) row = refl
 
 -- At most the figure, whatever the row says; so no more than half of b and one.
 said-most : (rule : Rule) (row : Numbers) → spansSaid rule row ≤ figure (row .a) (endOf (row .b))
 said-most (plain says) row = omega arith
-said-most (stretch keep feed) row = omega arith
+said-most (stretch columns) row = omega arith
 
 pub spans-most : (row : Numbers) → spansOf row ≤ figure (row .a) (endOf (row .b))
 spans-most row = said-most (ruleOf row) row

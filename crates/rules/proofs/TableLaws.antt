@@ -11,26 +11,26 @@ use native.Mathlib.Omega.{arith}
 use lib.ListN.{length}
 use Rattle.meaning.proofs.Tells.{Tells, tells-leb, tells-eqb, tells-and, tells-same}
 use Rattle.rules.specs.Limits.{rowNumbers, rowLimit}
-use Rattle.rules.specs.Kinds.{known, kindAt, lineOf, useOf, fits}
+use Rattle.rules.specs.Kinds.{known, kindAt, kindLine, useOf, fits}
 use Rattle.rules.specs.Rows.{rowsOf, fieldAt, numbersAt}
 use Rattle.rules.specs.Stretches.{width, offset}
-use Rattle.rules.specs.Refusals.{Refused, refused, _orElse_}
+use Rattle.refusals.specs.Refusals.{Refused, refused, _orElse_}
 use Rattle.rules.specs.Table.{lengthPasses, rowPasses, limitsPass, faultOf, firstFault, passed, refusedBy, checkOf}
 use Rattle.rules.specs.declared.kinds.Use.{Use}
-use Rattle.rules.specs.declared.kinds.Line.{Line}
+use Rattle.rules.specs.declared.kinds.KindLine.{KindLine}
 use Rattle.rules.specs.declared.numbers.Numbers.{Numbers}
-use Rattle.rules.specs.declared.refusal.Refusal.the-variants.{Length, Row, Limits}
-use Rattle.rules.proofs.Truths.{zero-not-one, and-false}
+use Rattle.refusals.specs.declared.refusal.Refusal.the-variants.{Length, Row, Limits}
+use Rattle.meaning.proofs.Truths.{zero-not-one, and-false}
 
 -- The number at a field of a row fits its use.
 abbrev pub fieldFits : List ℕ → ℕ → ℕ → Bool
-fieldFits table r field = fits r (useOf (lineOf (kindAt (numbersAt table r .kind))) field) (fieldAt table r field)
+fieldFits table r field = fits r (useOf (kindLine (kindAt (numbersAt table r .kind))) field) (fieldAt table r field)
 
 -- The same, from what was read and looked up on the way to it.
 pub field-told :
-    (table : List ℕ) (r field : ℕ) {found : Numbers} {line : Line} {usage : Use} {number : ℕ}
+    (table : List ℕ) (r field : ℕ) {found : Numbers} {line : KindLine} {usage : Use} {number : ℕ}
     → found ≡ numbersAt table r
-    → line ≡ lineOf (kindAt (found .kind))
+    → line ≡ kindLine (kindAt (found .kind))
     → usage ≡ useOf line field
     → number ≡ fieldAt table r field
     → fits r usage number ≡ fieldFits table r field

@@ -3,6 +3,5 @@ pub mod Limits
 pub mod Kinds
 pub mod Rows
 pub mod Stretches
-pub mod Refusals
 pub mod Table
 pub mod RowFormula

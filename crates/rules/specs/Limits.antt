@@ -17,7 +17,3 @@ maskBits = 32
 -- "a is 0 to 86,400,000; b is a to 86,400,000".
 abbrev pub longest : ℕ
 longest = 86_400_000
-
--- "two words (first, last) for each span".
-abbrev pub spanWords : ℕ
-spanWords = 2

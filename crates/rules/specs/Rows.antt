@@ -1,10 +1,16 @@
 -- The rows of a table (document 01, "The rule table"): "A lent row of 32-bit numbers, five per row: kind, x, y, a, b."
+use mathlib.Core.Bool.{Bool, true, false}
 use mathlib.Core.List.{List}
 use Prim.Native.Nat.{ℕ, _+_, _*_, _/_}
 use lib.ListN.{length, getD}
 use Rattle.rules.specs.Limits.{rowNumbers}
-use Rattle.rules.specs.Kinds.{Source, rowX, rowY, Rule, kindAt}
+use Rattle.rules.specs.Kinds.{Rule, kindAt}
 use Rattle.rules.specs.declared.numbers.Numbers.{Numbers}
+use Rattle.rules.specs.declared.stretch.Keep.{Keep}
+use Rattle.rules.specs.declared.stretch.Keep.the-variants.{Unasked, WhileX, WhileY}
+use Rattle.rules.specs.declared.stretch.Feed.{Feed}
+use Rattle.rules.specs.declared.stretch.Feed.the-variants.{FromX, FromY}
+use Rattle.rules.specs.declared.stretch.Stretch.{Stretch}
 
 abbrev pub rowsOf : List ℕ → ℕ
 rowsOf table = length table / rowNumbers
@@ -27,7 +33,20 @@ numbersAt table row =
 abbrev pub ruleOf : Numbers → Rule
 ruleOf row = kindAt (row .kind) .rule
 
--- The row that a source names.
-abbrev pub named : Source → Numbers → ℕ
-named rowX row = row .x
-named rowY row = row .y
+-- The columns of a stretch, over whatever the rows have, formulas or truths: what keeps its spans, what feeds them, and what the row itself is.
+abbrev pub keptBy : {A : Type 0} → A → (ℕ → A) → Numbers → Keep → A
+keptBy unasked of row Unasked = unasked
+keptBy unasked of row WhileX = of (row .x)
+keptBy unasked of row WhileY = of (row .y)
+
+abbrev pub feeder : Feed → Numbers → ℕ
+feeder FromX row = row .x
+feeder FromY row = row .y
+
+-- As it is, or its opposite.
+abbrev pub taken : {A : Type 0} → (A → A) → Bool → A → A
+taken opposite true value = value
+taken opposite false value = opposite value
+
+abbrev pub fedBy : {A : Type 0} → (A → A) → (ℕ → A) → Numbers → Stretch → A
+fedBy opposite of row columns = taken opposite (columns .when) (of (feeder (columns .feed) row))

@@ -3,7 +3,7 @@ use mathlib.Core.List.{List}
 use Prim.Native.Nat.{ℕ, zero, suc, _+_, _*_}
 use Rattle.meaning.specs.Interval.{endOf}
 use Rattle.meaning.specs.Figure.{figure}
-use Rattle.rules.specs.Limits.{spanWords}
+use Rattle.spans.specs.Layout.{spanWords}
 use Rattle.rules.specs.Kinds.{Rule, plain, stretch}
 use Rattle.rules.specs.Rows.{rowsOf, numbersAt, ruleOf}
 use Rattle.rules.specs.declared.numbers.Numbers.{Numbers}
@@ -11,7 +11,7 @@ use Rattle.rules.specs.declared.numbers.Numbers.{Numbers}
 -- "each span it may need": the figure, over the row's limits; none where it owns no stretch.
 abbrev pub spansSaid : Rule → Numbers → ℕ
 spansSaid (plain says) row = 0
-spansSaid (stretch keep feed) row = figure (row .a) (endOf (row .b))
+spansSaid (stretch columns) row = figure (row .a) (endOf (row .b))
 
 abbrev pub spansOf : Numbers → ℕ
 spansOf row = spansSaid (ruleOf row) row

@@ -10,9 +10,9 @@ use Rattle.rules.specs.Limits.{rowNumbers, rowLimit, longest}
 use Rattle.rules.specs.Kinds.{Kind, known, kindAt, fits}
 use Rattle.rules.specs.Rows.{rowsOf, numbersAt}
 use Rattle.rules.specs.Stretches.{needOf}
-use Rattle.rules.specs.Refusals.{Refused, refused, _orElse_}
+use Rattle.refusals.specs.Refusals.{Refused, refused, _orElse_}
 use Rattle.rules.specs.declared.numbers.Numbers.{Numbers}
-use Rattle.rules.specs.declared.refusal.Refusal.the-variants.{Length, Row, Limits}
+use Rattle.refusals.specs.declared.refusal.Refusal.the-variants.{Length, Row, Limits}
 use Rattle.rules.specs.declared.table.Checked as Answer
 
 -- 1: "table length not a multiple of 5, or rows not 1 to 64".
@@ -43,21 +43,21 @@ firstFault table zero = none
 firstFault table (suc r) = firstFault table r orElse faultOf r (numbersAt table r)
 
 -- "The table check gives the row count and need", or a refusal with the paper's number and values.
-pub data Said : Type 0 where
-  passed : (rows need : ℕ) → Said
-  refusedBy : Refused → Said
+pub data CheckReply : Type 0 where
+  passed : (rows need : ℕ) → CheckReply
+  refusedBy : Refused → CheckReply
 
-abbrev pub saidOf : Option Refused → (rows need : ℕ) → Said
-saidOf none rows need = passed rows need
-saidOf (some fault) rows need = refusedBy fault
+abbrev pub checkReplyBy : Option Refused → (rows need : ℕ) → CheckReply
+checkReplyBy none rows need = passed rows need
+checkReplyBy (some fault) rows need = refusedBy fault
 
-unfoldable pub checkOf : List ℕ → Said
+unfoldable pub checkOf : List ℕ → CheckReply
 checkOf table =
     cond (lengthPasses (length table))
-    (saidOf (firstFault table (rowsOf table)) (rowsOf table) (needOf table))
+    (checkReplyBy (firstFault table (rowsOf table)) (rowsOf table) (needOf table))
     (refusedBy (refused Length))
 
 -- What an answer of the check says.
-abbrev pub said : Answer.Checked → Said
-said (Answer.the-variants.Passed rows need) = passed rows need
-said (Answer.the-variants.Refused refusal) = refusedBy (refused refusal)
+abbrev pub checkReply : Answer.Checked → CheckReply
+checkReply (Answer.the-variants.Passed rows need) = passed rows need
+checkReply (Answer.the-variants.Refused refusal) = refusedBy (refused refusal)

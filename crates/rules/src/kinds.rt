@@ -1,9 +1,12 @@
-// The one table of kinds (document 01, "The rule table"), private to the crate: the lines of specs/Kinds as code. A new kind is a line in both, and a
-// case where the monitor judges its rows.
+// The one table of kinds (document 01, "The rule table"), private to the crate: the lines of specs/Kinds as code. A new kind is a line in both.
 
 ghost use mathlib.Core.Path.{_≡_};
-ghost use Rattle.rules.specs.Kinds.{kindAt, known, lineOf, useOf, fits};
+ghost use Rattle.rules.specs.Kinds.{kindAt, known, kindLine, useOf, fits};
 use crate::limits::MASK_BITS;
+use crate::plain::Plain;
+use crate::stretch::Feed;
+use crate::stretch::Keep;
+use crate::stretch::Stretch;
 
 // What a number of a row is used as.
 pub enum Use {
@@ -17,8 +20,16 @@ pub enum Use {
     Limit,
 }
 
-// What x, y, a and b are used as, and whether a row of the kind owns a stretch.
-pub struct Line(pub Use, pub Use, pub Use, pub Use, pub bool);
+// What x, y, a and b are used as; whether a row of the kind owns a stretch, and which; what a row without one says.
+pub struct KindLine(
+    pub Use,
+    pub Use,
+    pub Use,
+    pub Use,
+    pub bool,
+    pub Stretch,
+    pub Plain,
+);
 
 const UNUSED: Use = Use::Unused;
 
@@ -28,21 +39,49 @@ const LOWER: Use = Use::Lower;
 
 const LIMIT: Use = Use::Limit;
 
-const KINDS: [Line; 7] = [
+// Spans kept while x is true, fed where y is, the row true inside one.
+const SINCE: Stretch = Stretch {
+    keep: Keep::WhileX,
+    feed: Feed::FromY,
+    when: true,
+    inside: true,
+};
+
+// Of a kind without a stretch: no column is read.
+const NONE: Stretch = Stretch {
+    keep: Keep::Unasked,
+    feed: Feed::FromX,
+    when: true,
+    inside: true,
+};
+
+const TRUTH: Plain = Plain::Truth;
+
+const BIT_SET: Plain = Plain::Bit;
+
+const NEGATION: Plain = Plain::Negation;
+
+const BOTH: Plain = Plain::Both;
+
+const EITHER: Plain = Plain::Either;
+
+const PREVIOUS: Plain = Plain::Previous;
+
+const KINDS: [KindLine; 7] = [
     // 0: true.
-    Line(UNUSED, UNUSED, UNUSED, UNUSED, false),
+    KindLine(UNUSED, UNUSED, UNUSED, UNUSED, false, NONE, TRUTH),
     // 1: bit x.
-    Line(BIT, UNUSED, UNUSED, UNUSED, false),
+    KindLine(BIT, UNUSED, UNUSED, UNUSED, false, NONE, BIT_SET),
     // 2: not x.
-    Line(LOWER, UNUSED, UNUSED, UNUSED, false),
+    KindLine(LOWER, UNUSED, UNUSED, UNUSED, false, NONE, NEGATION),
     // 3: x and y.
-    Line(LOWER, LOWER, UNUSED, UNUSED, false),
+    KindLine(LOWER, LOWER, UNUSED, UNUSED, false, NONE, BOTH),
     // 4: x or y.
-    Line(LOWER, LOWER, UNUSED, UNUSED, false),
+    KindLine(LOWER, LOWER, UNUSED, UNUSED, false, NONE, EITHER),
     // 5: previous x.
-    Line(LOWER, UNUSED, LIMIT, LIMIT, false),
+    KindLine(LOWER, UNUSED, LIMIT, LIMIT, false, NONE, PREVIOUS),
     // 6: x since y.
-    Line(LOWER, LOWER, LIMIT, LIMIT, true),
+    KindLine(LOWER, LOWER, LIMIT, LIMIT, true, SINCE, TRUTH),
 ];
 
 // Whether there is such a kind.
@@ -53,17 +92,17 @@ pub fn is_known(kind: u32) -> bool
 }
 
 // The line of a kind; where there is none, a line that uses nothing.
-pub fn line_of(kind: u32) -> Line
-    ensures { λ r. ⌜ r ≡ lineOf (kindAt kind) ⌝ }
+pub fn line_of(kind: u32) -> KindLine
+    ensures { λ r. ⌜ r ≡ kindLine (kindAt kind) ⌝ }
 {
     if is_known(kind) {
         return KINDS[kind as usize];
     }
-    Line(UNUSED, UNUSED, UNUSED, UNUSED, false)
+    KindLine(UNUSED, UNUSED, UNUSED, UNUSED, false, NONE, TRUTH)
 }
 
 // What the number at a field of a row is used as; the fields are x, y, a and b, from 1 on.
-pub fn use_of(line: Line, field: usize) -> Use
+pub fn use_of(line: KindLine, field: usize) -> Use
     ensures { λ r. ⌜ r ≡ useOf line field ⌝ }
 {
     match field {

@@ -1,8 +1,8 @@
-// The rule table and the one list of refusals.
+// The rule table.
 
 mod kinds;
 pub mod limits;
 pub mod numbers;
-pub mod refusal;
+pub mod plain;
 pub mod stretch;
 pub mod table;

@@ -11,9 +11,3 @@ pub const MASK_BITS: u32 = 32;
 
 // "a is 0 to 86,400,000; b is a to 86,400,000".
 pub const LONGEST: u32 = 86_400_000;
-
-// "4,294,967,295 for 'no end'".
-pub const NO_END: u32 = 4_294_967_295;
-
-// "two words (first, last) for each span".
-pub const SPAN_WORDS: u64 = 2;

@@ -1,15 +1,40 @@
-// How much of the store a row owns (document 01, "Spans, store and record").
+// A row's stretch (document 01, "Spans, store and record"): how its spans come and go, by the table of kinds, and how much of the store it owns.
 
 ghost use mathlib.Core.Path.{_≡_};
-ghost use Prim.Native.Nat.{_-_};
 ghost use Rattle.meaning.specs.Interval.{endOf};
 ghost use Rattle.meaning.specs.Figure.{figure};
-ghost use Rattle.rules.specs.Kinds.{ownsStretch};
+ghost use Rattle.rules.specs.Kinds.{ownsStretch, columnsOf};
+ghost use Rattle.rules.specs.Rows.{ruleOf};
 ghost use Rattle.rules.specs.Stretches.{spansOf, width};
 use crate::kinds;
-use crate::limits::NO_END;
-use crate::limits::SPAN_WORDS;
 use crate::numbers::Numbers;
+use spans::stretch::SPAN_WORDS;
+use times::interval::has_no_end;
+use times::interval::length_of;
+use times::time::wide;
+
+// What is asked at an event for the spans to be kept: nothing, or that the row which x or y names is true.
+pub enum Keep {
+    Unasked,
+    WhileX,
+    WhileY,
+}
+
+// The row whose truth feeds the stretch: the one that x or y names.
+pub enum Feed {
+    FromX,
+    FromY,
+}
+
+// The columns of a kind with a stretch.
+pub struct Stretch {
+    pub keep: Keep,
+    pub feed: Feed,
+    // The truth of that row at which what the event reaches is joined in.
+    pub when: bool,
+    // Whether the row is true where the time lies in a span, or where it lies in none.
+    pub inside: bool,
+}
 
 // Whether a row owns a stretch, by the table of kinds.
 pub fn is_owned(row: Numbers) -> bool
@@ -17,6 +42,14 @@ pub fn is_owned(row: Numbers) -> bool
 {
     let line = kinds::line_of(row.kind);
     line.4
+}
+
+// The columns of the stretch that a row owns; of a row without one they say nothing.
+pub fn columns(row: Numbers) -> Stretch
+    ensures { λ r. ⌜ r ≡ columnsOf (ruleOf row) ⌝ }
+{
+    let line = kinds::line_of(row.kind);
+    line.5
 }
 
 // The spans that a row may need; a row that owns no stretch needs none.
@@ -33,32 +66,15 @@ pub fn spans(row: Numbers) -> u64
 pub fn words(row: Numbers) -> u64
     ensures { λ r. ⌜ r ≡ width row ⌝ }
 {
-    SPAN_WORDS * spans(row)
+    SPAN_WORDS as u64 * spans(row)
 }
 
 // The figure: floor(b/(b-a+2))+1 spans, or 1 when b has no end.
 fn spans_for(a: u32, b: u32) -> u64
     ensures { λ r. ⌜ r ≡ figure a (endOf b) ⌝ }
 {
-    if b == NO_END {
+    if has_no_end(b) {
         return 1;
     }
-    wide(b) / (wide(apart(a, b)) + 2) + 1
-}
-
-// b less a, 0 where a is over b.
-fn apart(a: u32, b: u32) -> u32
-    ensures { λ r. ⌜ r ≡ b - a ⌝ }
-{
-    if a <= b {
-        return b - a;
-    }
-    0
-}
-
-// A number of the table in 64 bits.
-fn wide(number: u32) -> u64
-    ensures { λ r. ⌜ r ≡ number ⌝ }
-{
-    number as u64
+    wide(b) / (length_of(a, b) + 2) + 1
 }

@@ -1,15 +1,15 @@
 // The check of a rule table (document 01, "The rule table" and "Refusal numbers"), which start and every event begin with.
 
 ghost use mathlib.Core.Path.{_≡_};
-ghost use Rattle.rules.specs.Table.{checkOf, said, lengthPasses, limitsPass};
+ghost use Rattle.rules.specs.Table.{checkOf, checkReply, lengthPasses, limitsPass};
 use crate::kinds;
 use crate::limits::LONGEST;
-use crate::limits::NO_END;
 use crate::limits::ROW_LIMIT;
 use crate::limits::ROW_NUMBERS;
 use crate::numbers;
-use crate::refusal::Refusal;
 use crate::stretch;
+use refusals::refusal::Refusal;
+use times::interval::has_no_end;
 
 pub enum Checked {
     // The row count and the need, in words.
@@ -20,7 +20,7 @@ pub enum Checked {
 
 // The row count and the need of a table; or refusal 1 for its length, or that of its first bad row, after which nothing is looked at.
 pub fn check(table: &[u32]) -> Checked
-    ensures { λ r. ⌜ said r ≡ checkOf (now (table .entry)) ⌝ }
+    ensures { λ r. ⌜ checkReply r ≡ checkOf (now (table .entry)) ⌝ }
 {
     if !length_passes(table.len()) {
         return Checked::Refused(Refusal::Length);
@@ -76,7 +76,7 @@ fn limits_pass(a: u32, b: u32) -> bool
     if LONGEST < a {
         return false;
     }
-    if b == NO_END {
+    if has_no_end(b) {
         return true;
     }
     if b < a {

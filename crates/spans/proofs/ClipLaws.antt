@@ -10,8 +10,8 @@ use lib.ListN.{length, getD, take, drop, set, replicate, length-drop, length-rep
 use lib.Seq.{drop-append-le, take-at}
 use Rattle.meaning.specs.Spans.{Span, _to_, ended, clip}
 use Rattle.spans.specs.declared.stretch.Held.{Held}
-use Rattle.spans.specs.Layout.{mark, spansFrom, spansHeld, wordsOf, over, freed}
-use Rattle.spans.specs.Stretch.{endedCount, Written}
+use Rattle.spans.specs.Layout.{mark, spansFrom, spansHeld, wordsOf, spansOver, freed}
+use Rattle.spans.specs.Stretch.{endedCount, SpansWritten}
 use Rattle.spans.proofs.LayoutLaws.{Stored, ended-word, spans-next, spans-none, length-words, held-written, drop-zeros}
 
 unfoldable clipFirst : ℕ → List Span → List Span
@@ -87,8 +87,8 @@ later-words k S rest h =
 
 -- Later spans move down, and freed words become 0.
 moved-over : (k : ℕ) (S : List Span) (rest : List ℕ) → k ≤ length S
-    → wordsOf (drop k S) ++ (replicate (2 * k) 0 ++ rest) ≡ over (replicate (2 * length S) 0 ++ rest) (drop k S)
-unfolding over
+    → wordsOf (drop k S) ++ (replicate (2 * k) 0 ++ rest) ≡ spansOver (replicate (2 * length S) 0 ++ rest) (drop k S)
+unfolding spansOver
 moved-over k S rest h =
     let left : 2 * length (drop k S) ≡ 2 * length S - 2 * k = rw length-drop (omega arith) in
     let free : 2 * length S - (2 * length S - 2 * k) ≡ 2 * k = omega arith in
@@ -96,8 +96,8 @@ moved-over k S rest h =
     rw (left, drop-append-le _ (replicate (2 * length S) 0) rest within, drop-zeros (2 * length S - 2 * k) (2 * length S) (omega arith), free) refl
 
 raised-over : (words : List ℕ) (time : ℕ) (S : List Span)
-    → cond (eqb (length S) 0) (over words S) (set (over words S) 0 (max time (getD (over words S) 0 0))) ≡ over words (clipFirst time S)
-unfolding over wordsOf clipFirst
+    → cond (eqb (length S) 0) (spansOver words S) (set (spansOver words S) 0 (max time (getD (spansOver words S) 0 0))) ≡ spansOver words (clipFirst time S)
+unfolding spansOver wordsOf clipFirst
 raised-over words time [] = refl
 raised-over words time ((first to last) ∷ S) =
     let some : eqb (suc (length S)) 0 ≡ false = ne-eqb (suc (length S)) 0 (omega arith) in
@@ -108,28 +108,28 @@ pub clip-written : (words : List ℕ) (held : Held) (time gone : ℕ) (moved : L
     → 2 * held .count ≤ length words
     → gone ≡ endedCount time (spansHeld words held)
     → moved ≡ take (2 * held .count - 2 * gone) (drop (2 * gone) words) ++ (replicate (2 * gone) 0 ++ drop (2 * held .count) words)
-    → Written
+    → SpansWritten
     (freed (held .count) words)
     (cond (eqb (held .count - gone) 0) moved (set moved 0 (max time (getD moved 0 0))))
     (record { count = held .count - gone })
     (clip time (spansHeld words held))
-unfolding over
+unfolding spansOver
 clip-written words held time gone moved room many move =
     let S : List Span = spansHeld words held in
-    let read : Written words words held S = held-written words held room in
+    let read : SpansWritten words words held S = held-written words held room in
     let h : gone ≤ length S = rw many (ended-le time S) in
     let count : held .count ≡ length S = read .counted in
     let left : held .count - gone ≡ length (drop gone S) = ap (λ (n : ℕ). n - gone) count ∙ sym (length-drop gone S) in
     let later : take (2 * held .count - 2 * gone) (drop (2 * gone) words) ≡ wordsOf (drop gone S) =
     ap (λ (l : List ℕ). take (2 * held .count - 2 * gone) (drop (2 * gone) l)) (read .written)
-    ∙ ap (λ (n : ℕ). take (2 * n - 2 * gone) (drop (2 * gone) (over words S))) count
+    ∙ ap (λ (n : ℕ). take (2 * n - 2 * gone) (drop (2 * gone) (spansOver words S))) count
     ∙ later-words gone S (drop (2 * length S) words) h
     in
-    let down : moved ≡ over (freed (held .count) words) (drop gone S) =
+    let down : moved ≡ spansOver (freed (held .count) words) (drop gone S) =
     move
     ∙ ap (λ (l : List ℕ). l ++ (replicate (2 * gone) 0 ++ drop (2 * held .count) words)) later
     ∙ moved-over gone S (drop (2 * held .count) words) h
-    ∙ ap (λ (n : ℕ). over (replicate (2 * n) 0 ++ drop (2 * held .count) words) (drop gone S)) (sym count)
+    ∙ ap (λ (n : ℕ). spansOver (replicate (2 * n) 0 ++ drop (2 * held .count) words) (drop gone S)) (sym count)
     in
     let parts : clip time S ≡ clipFirst time (drop gone S) = rw many (clip-parts time S) in
     record {
@@ -138,8 +138,8 @@ clip-written words held time gone moved room many move =
     }
 
 -- All spans drop out: their words are freed.
-pub clear-written : (count : ℕ) (words : List ℕ) → freed count words ≡ over (freed count words) []
-unfolding over wordsOf
+pub clear-written : (count : ℕ) (words : List ℕ) → freed count words ≡ spansOver (freed count words) []
+unfolding spansOver wordsOf
 clear-written count words =
     let none : 2 * length {A = Span} [] ≡ 0 = omega arith in
     rw none refl

@@ -11,8 +11,8 @@ use lib.Seq.{drop-cons, take-at}
 use Rattle.meaning.specs.Interval.{End, upTo, noEnd}
 use Rattle.meaning.specs.Spans.{Span, _to_, touches, join}
 use Rattle.spans.specs.declared.stretch.Held.{Held}
-use Rattle.spans.specs.Layout.{mark, wordOf, endAt, wordsOf, fitting, over}
-use Rattle.spans.specs.Stretch.{Written}
+use Rattle.spans.specs.Layout.{mark, wordOf, endAt, wordsOf, fitting, spansOver}
+use Rattle.spans.specs.Stretch.{SpansWritten}
 use Rattle.spans.proofs.LayoutLaws.{Stored, end-cases, word-back, fitting-all}
 
 -- A span that begins at next meets one with that end.
@@ -97,16 +97,16 @@ last-meets p S next stored h =
     ap (λ (e : End). meets e next) (sym (last-stored p S stored)) ∙ meets-word next (wordOf (lastEnd p S)) h
 
 -- The word that is read before a join is the last word of the last span.
-read-last : {before words : List ℕ} {held : Held} {p : Span} {S : List Span} → Written before words held (p ∷ S)
+read-last : {before words : List ℕ} {held : Held} {p : Span} {S : List Span} → SpansWritten before words held (p ∷ S)
     → getD words (2 * held .count - 1) 0 ≡ wordOf (lastEnd p S)
-unfolding over
+unfolding spansOver
 read-last {p = p} {S = S} read =
     let e : 2 * suc (length S) - 1 ≡ 2 * length S + 1 = omega arith in
     rw (read .written, read .counted, e) (last-word p S _)
 
 -- A span that begins two or more past that word follows those held, also where none is held.
 pub follows : {before words : List ℕ} {held : Held} {S : List Span} (first : ℕ) (end : End)
-    → Written before words held S
+    → SpansWritten before words held S
     → Stored S
     → first ≤ mark
     → (¬ (held .count ≡ 0) → getD words (2 * held .count - 1) 0 + 2 ≤ first)
@@ -120,14 +120,14 @@ follows {held = held} {S = p ∷ S} first end read stored h apart =
 
 -- It takes the two words after theirs, if there are two; otherwise it is left out.
 pub append-written : {before words : List ℕ} {held : Held} {S : List Span} (first last : ℕ)
-    → Written before words held S
+    → SpansWritten before words held S
     → 2 * (held .count + 1) ≤ length before
-    → Written
+    → SpansWritten
     before
     (set (set words (2 * held .count) first) (2 * held .count + 1) last)
     (record { count = held .count + 1 })
     (fitting before (S ++ ((first to endAt last) ∷ [])))
-unfolding over
+unfolding spansOver
 append-written {before} {words} {held} {S} first last read room =
     let s : Span = first to endAt last in
     let count : held .count ≡ length S = read .counted in
@@ -149,24 +149,24 @@ append-written {before} {words} {held} {S} first last read room =
     }
 
 pub left-out : {before words : List ℕ} {held : Held} {S : List Span} (s : Span)
-    → Written before words held S
+    → SpansWritten before words held S
     → 2 * held .count ≤ length before
     → length before / 2 ≤ held .count
-    → Written before words held (fitting before (S ++ (s ∷ [])))
+    → SpansWritten before words held (fitting before (S ++ (s ∷ [])))
 left-out {before} {words} {held} {S} s read room full =
     let count : held .count ≡ length S = read .counted in
     rw (take-at S (s ∷ []) (length before / 2) (omega arith)) read
 
 -- Any other extends the last one.
 pub extend-written : {before words : List ℕ} {held : Held} {S : List Span} (first last : ℕ)
-    → Written before words held S
+    → SpansWritten before words held S
     → Stored S
     → first ≤ mark
     → 2 * held .count ≤ length before
     → ¬ (held .count ≡ 0)
     → first < getD words (2 * held .count - 1) 0 + 2
-    → Written before (set words (2 * held .count - 1) last) held (fitting before (join (first to endAt last) S))
-unfolding over
+    → SpansWritten before (set words (2 * held .count - 1) last) held (fitting before (join (first to endAt last) S))
+unfolding spansOver
 extend-written {S = []} first last read stored h room some near = absurd (some (read .counted))
 extend-written {before = before} {held = held} {S = p ∷ S} first last read stored h room some near =
     let e : first < wordOf (lastEnd p S) + 2 = rw (read-last read) at near in

@@ -13,8 +13,8 @@ use Rattle.meaning.specs.Interval.{End, upTo, noEnd}
 use Rattle.meaning.specs.Computed.{notPast?}
 use Rattle.meaning.specs.Spans.{Span, _to_, ended}
 use Rattle.spans.specs.declared.stretch.Held.{Held}
-use Rattle.spans.specs.Layout.{mark, wordOf, endAt, spanAt, spansFrom, spansHeld, wordsOf, packed, Laid, fitting, over, freed}
-use Rattle.spans.specs.Stretch.{Written}
+use Rattle.spans.specs.Layout.{mark, wordOf, endAt, spanAt, spansFrom, spansHeld, wordsOf, packed, Laid, fitting, spansOver, freed}
+use Rattle.spans.specs.Stretch.{SpansWritten}
 
 -- By cases: the word is the mark, or the end is the word itself.
 pub end-cases : (P : End → Type 0) (word : ℕ) → (word ≡ mark → P noEnd) → (¬ (word ≡ mark) → P (upTo word)) → P (endAt word)
@@ -150,8 +150,8 @@ words-again words place (suc count) h =
     refl
 
 -- Words that have room for the spans held are these spans written over them.
-pub held-written : (words : List ℕ) (held : Held) → 2 * held .count ≤ length words → Written words words held (spansHeld words held)
-unfolding over
+pub held-written : (words : List ℕ) (held : Held) → 2 * held .count ≤ length words → SpansWritten words words held (spansHeld words held)
+unfolding spansOver
 held-written words held room =
     let count : length (spansHeld words held) ≡ held .count = length-spans words 0 (held .count) in
     record {
@@ -165,7 +165,7 @@ held-written words held room =
 pub read-laid : (words : List ℕ) (held : Held) → 2 * held .count ≤ length words
     → drop (2 * held .count) words ≡ replicate (length words - 2 * held .count) 0
     → Laid (length words) words held (spansHeld words held)
-unfolding packed over
+unfolding packed spansOver
 read-laid words held room zeros =
     let read = held-written words held room in
     record {
@@ -174,13 +174,13 @@ read-laid words held room zeros =
     }
 
 -- Spans written over words are read back, and have room if the length stays.
-pub written-read : {words after : List ℕ} {held : Held} {S : List Span} → Written words after held S → Stored S → spansHeld after held ≡ S
-unfolding over
+pub written-read : {words after : List ℕ} {held : Held} {S : List Span} → SpansWritten words after held S → Stored S → spansHeld after held ≡ S
+unfolding spansOver
 written-read {S = S} done h = rw (done .written, done .counted) (words-read S _ h)
 
-pub written-room : {words after : List ℕ} {held : Held} {S : List Span} → Written words after held S → length after ≡ length words
+pub written-room : {words after : List ℕ} {held : Held} {S : List Span} → SpansWritten words after held S → length after ≡ length words
     → 2 * held .count ≤ length words
-unfolding over
+unfolding spansOver
 written-room {words} {after} {held} {S} done same =
     let count : held .count ≡ length S = done .counted in
     let sum : length after ≡ 2 * length S + (length words - 2 * length S) =
@@ -189,8 +189,8 @@ written-room {words} {after} {held} {S} done same =
     omega arith
 
 -- More spans over fewer: the fewer leave no trace.
-pub over-again : (words : List ℕ) (K S : List Span) → length K ≤ length S → over (over words K) S ≡ over words S
-unfolding over
+pub over-again : (words : List ℕ) (K S : List Span) → length K ≤ length S → spansOver (spansOver words K) S ≡ spansOver words S
+unfolding spansOver
 over-again words K S h =
     let place : length (wordsOf K) + (2 * length S - 2 * length K) ≡ 2 * length S = rw length-words (omega arith) in
     let again : 2 * length K + (2 * length S - 2 * length K) ≡ 2 * length S = omega arith in
@@ -211,8 +211,8 @@ drop-zeros n m h =
     ∙ drop-at (replicate n 0) (replicate (m - n) 0) n (length-replicate n 0)
 
 -- Where other spans take the place of those that were packed, they are packed.
-pub over-packed : (size : ℕ) (K S : List Span) → 2 * length K ≤ size → 2 * length S ≤ size → over (freed (length K) (packed size K)) S ≡ packed size S
-unfolding over packed
+pub over-packed : (size : ℕ) (K S : List Span) → 2 * length K ≤ size → 2 * length S ≤ size → spansOver (freed (length K) (packed size K)) S ≡ packed size S
+unfolding spansOver packed
 over-packed size K S room fits =
     let sum : 2 * length K + (size - 2 * length K) ≡ size = omega arith in
     rw (drop-at (wordsOf K) (replicate (size - 2 * length K) 0) (2 * length K) (length-words K), replicate-append-replicate, sum)

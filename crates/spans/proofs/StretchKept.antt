@@ -6,7 +6,7 @@ use Prim.Native.Nat.{ℕ, _*_, _≤_}
 use native.Mathlib.Omega.{arith}
 use lib.ListN.{length}
 use Rattle.meaning.specs.Interval.{End, _≤End_, _+End_}
-use Rattle.meaning.specs.Spans.{reach, update}
+use Rattle.meaning.specs.Spans.{reachedFrom, update}
 use Rattle.meaning.specs.Sound.{lengthOf}
 use Rattle.meaning.specs.Figure.{figure}
 use Rattle.meaning.proofs.SoundKept.{update-fits}
@@ -31,6 +31,6 @@ module _
     sound-packed = rw read (sound .laid)
 
     pub sound-ready : (keep feed : Bool) → a ≤End b → now ≤ t → event ≤ t → 2 * figure a b ≤ length words
-        → 2 * length (update keep feed t (reach t a b) (spansHeld words held)) ≤ length words
+        → 2 * length (update keep feed t (reachedFrom t a b) (spansHeld words held)) ≤ length words
     sound-ready keep feed order present seen size =
         omega (arith, update-fits keep feed now t event a latestFirst b (spansHeld words held) order present seen (rw read (sound .sound)))

@@ -9,8 +9,8 @@ use lib.ListN.{length, length-take}
 use Rattle.meaning.specs.Spans.{Span, _to_, touches, extended, clip, join, update}
 use Rattle.spans.specs.declared.stretch.Held.{Held}
 use Rattle.spans.specs.declared.stretch.Updated.{Updated}
-use Rattle.spans.specs.Layout.{endAt, spansHeld, Laid, Packed, fitting, over, freed}
-use Rattle.spans.specs.Stretch.{covered, spansIn, spansUpdated, Written, UpdatedTo}
+use Rattle.spans.specs.Layout.{endAt, spansHeld, Laid, Packed, fitting, spansOver, freed}
+use Rattle.spans.specs.Stretch.{covered, spansIn, spansUpdated, SpansWritten, UpdatedTo}
 use Rattle.spans.proofs.LayoutLaws.{
   Stored,
   word-back,
@@ -64,7 +64,7 @@ module _
     (keep : Bool)
     (time : ℕ)
     (room : 2 * found .count ≤ length words)
-    (clipped : Written (freed (found .count) words) mid kept (cond keep (clip time (spansHeld words found)) []))
+    (clipped : SpansWritten (freed (found .count) words) mid kept (cond keep (clip time (spansHeld words found)) []))
     (same : length mid ≡ length words)
   where
     abbrev K : List Span
@@ -84,12 +84,12 @@ module _
         (feed : Bool)
         (first last : ℕ)
         (joined :
-        Written mid after fed (fitting mid (cond feed (join (first to endAt last) (spansHeld mid kept)) (spansHeld mid kept))))
+        SpansWritten mid after fed (fitting mid (cond feed (join (first to endAt last) (spansHeld mid kept)) (spansHeld mid kept))))
       where
         abbrev U : List Span
         U = fitting words (update keep feed time (first to endAt last) (spansHeld words found))
 
-        fed-over : Written mid after fed U
+        fed-over : SpansWritten mid after fed U
         unfolding update
         fed-over = rw (kept-read, same) at joined
 
@@ -102,10 +102,10 @@ module _
             let count : kept .count ≡ length K = clipped .counted in
             fed-grows feed (first to endAt last) K words (omega (arith, kept-room))
 
-        fed-written : after ≡ over (freed (found .count) words) U
+        fed-written : after ≡ spansOver (freed (found .count) words) U
         fed-written =
             fed-over .written
-            ∙ ap (λ (l : List ℕ). over l U) (clipped .written)
+            ∙ ap (λ (l : List ℕ). spansOver l U) (clipped .written)
             ∙ over-again (freed (found .count) words) K U fed-longer
 
         pub updated-to : {held : Held} {told : Bool} → spansHeld words found ≡ spansIn words held → told ≡ covered time (spansHeld after fed)
@@ -149,7 +149,7 @@ module _
           written =
               done .written
               ∙ rw (all, found)
-              (ap (λ (l : List ℕ). over (freed (length (spansHeld words held)) l) (update x y t s (spansHeld words held))) (laid .written)
+              (ap (λ (l : List ℕ). spansOver (freed (length (spansHeld words held)) l) (update x y t s (spansHeld words held))) (laid .written)
               ∙ over-packed (length words) (spansHeld words held) (update x y t s (spansHeld words held)) (omega (arith, fits)) room);
           counted = done .counted ∙ ap length all;
         }

@@ -9,6 +9,10 @@ use Rattle.meaning.specs.Interval.{End, upTo, noEnd}
 use Rattle.meaning.specs.Spans.{Span, _to_}
 use Rattle.spans.specs.declared.stretch.Held.{Held}
 
+-- "two words (first, last) for each span".
+abbrev pub spanWords : ℕ
+spanWords = 2
+
 -- "'no end' is stored as 18,446,744,073,709,551,615".
 abbrev pub mark : ℕ
 mark = 18_446_744_073_709_551_615
@@ -20,9 +24,9 @@ wordOf noEnd = mark
 unfoldable pub endAt : ℕ → End
 endAt word = cond (eqb word mark) noEnd (upTo word)
 
--- "two words (first, last) for each span": the span that is read at a place of the stretch, then as many from a place on.
+-- The span that is read at a place of the stretch, then as many from a place on.
 abbrev pub spanAt : List ℕ → ℕ → Span
-spanAt words place = getD words (2 * place) 0 to endAt (getD words (2 * place + 1) 0)
+spanAt words place = getD words (spanWords * place) 0 to endAt (getD words (spanWords * place + 1) 0)
 
 unfoldable pub spansFrom : List ℕ → ℕ → ℕ → List Span
 spansFrom words place zero = []
@@ -38,7 +42,7 @@ wordsOf [] = []
 wordsOf ((first to last) ∷ S) = first ∷ wordOf last ∷ wordsOf S
 
 unfoldable pub packed : ℕ → List Span → List ℕ
-packed size S = wordsOf S ++ replicate (size - 2 * length S) 0
+packed size S = wordsOf S ++ replicate (size - spanWords * length S) 0
 
 -- The words of a stretch and what is held beside them are those of the spans S.
 pub record Laid (size : ℕ) (words : List ℕ) (held : Held) (S : List Span) : Type 0 where
@@ -55,15 +59,15 @@ zeros? [] = true
 zeros? (word ∷ words) = eqb word 0 && zeros? words
 
 abbrev pub laid? : List ℕ → Held → Bool
-laid? words held = leb (2 * held .count) (length words) && zeros? (drop (2 * held .count) words)
+laid? words held = leb (spanWords * held .count) (length words) && zeros? (drop (spanWords * held .count) words)
 
 -- For any words at all: as many of the spans as the words have room for; the spans S written from the start, later words left as they are; the
 -- words of so many spans freed.
 abbrev pub fitting : List ℕ → List Span → List Span
-fitting words S = take (length words / 2) S
+fitting words S = take (length words / spanWords) S
 
-unfoldable pub over : List ℕ → List Span → List ℕ
-over words S = wordsOf S ++ drop (2 * length S) words
+unfoldable pub spansOver : List ℕ → List Span → List ℕ
+spansOver words S = wordsOf S ++ drop (spanWords * length S) words
 
 abbrev pub freed : ℕ → List ℕ → List ℕ
-freed count words = replicate (2 * count) 0 ++ drop (2 * count) words
+freed count words = replicate (spanWords * count) 0 ++ drop (spanWords * count) words

@@ -9,7 +9,7 @@ use Rattle.meaning.specs.Computed.{notPast?}
 use Rattle.meaning.specs.Spans.{Span, _to_, ended, update}
 use Rattle.spans.specs.declared.stretch.Held.{Held}
 use Rattle.spans.specs.declared.stretch.Updated.{Updated}
-use Rattle.spans.specs.Layout.{spansHeld, fitting, over, freed}
+use Rattle.spans.specs.Layout.{spansHeld, fitting, spansOver, freed}
 
 -- "The row is true at t exactly when t lies in a span."
 unfoldable pub covered : ℕ → List Span → Bool
@@ -29,13 +29,13 @@ abbrev pub spansUpdated : List ℕ → Held → (x y : Bool) → ℕ → Span �
 spansUpdated words held x y t s = fitting words (update x y t s (spansIn words held))
 
 -- The spans S written over words, and what is held of them.
-pub record Written (words after : List ℕ) (held : Held) (S : List Span) : Type 0 where
-  pub written : after ≡ over words S
+pub record SpansWritten (words after : List ℕ) (held : Held) (S : List Span) : Type 0 where
+  pub written : after ≡ spansOver words S
   pub counted : held .count ≡ length S
 
 -- After an update: the words of the spans found are freed, those of S are written, every later word stays; the answer tells how many spans S has and
 -- whether the time lies in one.
 pub record UpdatedTo (words : List ℕ) (held : Held) (after : List ℕ) (updated : Updated) (time : ℕ) (S : List Span) : Type 0 where
-  pub written : after ≡ over (freed (length (spansIn words held)) words) S
+  pub written : after ≡ spansOver (freed (length (spansIn words held)) words) S
   pub counted : updated .held .count ≡ length S
   pub told : updated .covered ≡ covered time S

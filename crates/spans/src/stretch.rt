@@ -3,7 +3,7 @@
 
 use crate::words::clear_words;
 use crate::words::move_down;
-use crate::words::past_by;
+use times::time::past_by;
 ghost use mathlib.Core.Bool.{cond, _&&_};
 ghost use mathlib.Core.List.{[], _∷_, _++_};
 ghost use mathlib.Core.Path.{_≡_};
@@ -11,8 +11,11 @@ ghost use Prim.Native.Nat.{_≤_, _*_, max};
 ghost use lib.Dec.{eqb, leb};
 ghost use lib.ListN.{length, getD, set};
 ghost use Rattle.meaning.specs.Spans.{_to_, clip, join};
-ghost use Rattle.spans.specs.Layout.{endAt, spansHeld, spansFrom, fitting, freed};
-ghost use Rattle.spans.specs.Stretch.{covered, endedCount, spansIn, spansUpdated, Written, UpdatedTo};
+ghost use Rattle.spans.specs.Layout.{spanWords, endAt, spansHeld, spansFrom, fitting, freed};
+ghost use Rattle.spans.specs.Stretch.{covered, endedCount, spansIn, spansUpdated, SpansWritten, UpdatedTo};
+
+// "two words (first, last) for each span".
+pub const SPAN_WORDS: usize = 2;
 
 // The stored last of a span without end.
 pub const MARK: u64 = 18_446_744_073_709_551_615;
@@ -50,9 +53,9 @@ pub fn update(
 
 // As many of the spans held as the words have room for.
 fn fit(words: &[u64], held: Held) -> Held
-    ensures { λ r. ⌜ (2 * r .count ≤ length (now (words .entry))) × (spansHeld (now (words .entry)) r ≡ spansIn (now (words .entry)) held) ⌝ }
+    ensures { λ r. ⌜ (spanWords * r .count ≤ length (now (words .entry))) × (spansHeld (now (words .entry)) r ≡ spansIn (now (words .entry)) held) ⌝ }
 {
-    let room = words.len() / 2;
+    let room = words.len() / SPAN_WORDS;
     if room < held.count {
         return Held { count: room };
     }
@@ -60,8 +63,8 @@ fn fit(words: &[u64], held: Held) -> Held
 }
 
 fn clip_or_clear(words: &mut [u64], held: Held, keep: bool, time: u64) -> Held
-    requires { ⌜ 2 * held .count ≤ length (now words) ⌝ }
-    ensures { λ r. ⌜ Written (freed (held .count) (now (words .entry))) (now (words .exit)) r (cond keep (clip time (spansHeld (now (words .entry)) held)) []) ⌝ }
+    requires { ⌜ spanWords * held .count ≤ length (now words) ⌝ }
+    ensures { λ r. ⌜ SpansWritten (freed (held .count) (now (words .entry))) (now (words .exit)) r (cond keep (clip time (spansHeld (now (words .entry)) held)) []) ⌝ }
 {
     if keep {
         return clip(words, held, time);
@@ -70,8 +73,8 @@ fn clip_or_clear(words: &mut [u64], held: Held, keep: bool, time: u64) -> Held
 }
 
 fn join_or_not(words: &mut [u64], held: Held, feed: bool, first: u64, last: u64) -> Held
-    requires { ⌜ 2 * held .count ≤ length (now words) ⌝ }
-    ensures { λ r. ⌜ Written (now (words .entry)) (now (words .exit)) r (fitting (now (words .entry)) (cond feed (join (first to endAt last) (spansHeld (now (words .entry)) held)) (spansHeld (now (words .entry)) held))) ⌝ }
+    requires { ⌜ spanWords * held .count ≤ length (now words) ⌝ }
+    ensures { λ r. ⌜ SpansWritten (now (words .entry)) (now (words .exit)) r (fitting (now (words .entry)) (cond feed (join (first to endAt last) (spansHeld (now (words .entry)) held)) (spansHeld (now (words .entry)) held))) ⌝ }
 {
     if feed {
         return join(words, held, first, last);
@@ -81,13 +84,13 @@ fn join_or_not(words: &mut [u64], held: Held, feed: bool, first: u64, last: u64)
 
 // Whether the time lies in a span held.
 fn cover(words: &[u64], held: Held, time: u64) -> bool
-    requires { ⌜ 2 * held .count ≤ length (now words) ⌝ }
+    requires { ⌜ spanWords * held .count ≤ length (now words) ⌝ }
     ensures { λ r. ⌜ r ≡ covered time (spansHeld (now (words .entry)) held) ⌝ }
 {
     let count = held.count;
     let mut i = 0;
     while i < count {
-        if lies_in(words[2 * i], words[2 * i + 1], time) {
+        if lies_in(words[SPAN_WORDS * i], words[SPAN_WORDS * i + 1], time) {
             return true;
         }
         i += 1;
@@ -97,12 +100,12 @@ fn cover(words: &[u64], held: Held, time: u64) -> bool
 
 // The spans are clipped at the time and ended ones dropped: later ones move down, and the words freed become 0.
 fn clip(words: &mut [u64], held: Held, time: u64) -> Held
-    requires { ⌜ 2 * held .count ≤ length (now words) ⌝ }
-    ensures { λ r. ⌜ Written (freed (held .count) (now (words .entry))) (now (words .exit)) r (clip time (spansHeld (now (words .entry)) held)) ⌝ }
+    requires { ⌜ spanWords * held .count ≤ length (now words) ⌝ }
+    ensures { λ r. ⌜ SpansWritten (freed (held .count) (now (words .entry))) (now (words .exit)) r (clip time (spansHeld (now (words .entry)) held)) ⌝ }
 {
     let count = held.count;
     let gone = ended(words, count, time);
-    move_down(words, 2 * gone, 2 * count);
+    move_down(words, SPAN_WORDS * gone, SPAN_WORDS * count);
     raise_first(words, count - gone, time);
     Held {
         count: count - gone,
@@ -111,24 +114,24 @@ fn clip(words: &mut [u64], held: Held, time: u64) -> Held
 
 // All spans are dropped.
 fn clear(words: &mut [u64], held: Held) -> Held
-    requires { ⌜ 2 * held .count ≤ length (now words) ⌝ }
-    ensures { λ r. ⌜ Written (freed (held .count) (now (words .entry))) (now (words .exit)) r [] ⌝ }
+    requires { ⌜ spanWords * held .count ≤ length (now words) ⌝ }
+    ensures { λ r. ⌜ SpansWritten (freed (held .count) (now (words .entry))) (now (words .exit)) r [] ⌝ }
 {
     let count = held.count;
-    clear_words(&mut words[0..2 * count]);
+    clear_words(&mut words[0..SPAN_WORDS * count]);
     Held { count: 0 }
 }
 
 // The span from `first` to `last` is joined in: it extends the last span held where the two touch or overlap, otherwise it follows it.
 fn join(words: &mut [u64], held: Held, first: u64, last: u64) -> Held
-    requires { ⌜ 2 * held .count ≤ length (now words) ⌝ }
-    ensures { λ r. ⌜ Written (now (words .entry)) (now (words .exit)) r (fitting (now (words .entry)) (join (first to endAt last) (spansHeld (now (words .entry)) held))) ⌝ }
+    requires { ⌜ spanWords * held .count ≤ length (now words) ⌝ }
+    ensures { λ r. ⌜ SpansWritten (now (words .entry)) (now (words .exit)) r (fitting (now (words .entry)) (join (first to endAt last) (spansHeld (now (words .entry)) held))) ⌝ }
 {
     let count = held.count;
     if count == 0 {
         return append(words, held, first, last);
     }
-    let place = 2 * count - 1;
+    let place = SPAN_WORDS * count - 1;
     if past_by(words[place], 2, first) {
         return append(words, held, first, last);
     }
@@ -138,12 +141,12 @@ fn join(words: &mut [u64], held: Held, first: u64, last: u64) -> Held
 
 // How many spans from the start on ended before the time.
 fn ended(words: &[u64], count: usize, time: u64) -> usize
-    requires { ⌜ 2 * count ≤ length (now words) ⌝ }
+    requires { ⌜ spanWords * count ≤ length (now words) ⌝ }
     ensures { λ r. ⌜ r ≡ endedCount time (spansFrom (now (words .entry)) 0 count) ⌝ }
 {
     let mut i = 0;
     while i < count {
-        if time <= words[2 * i + 1] {
+        if time <= words[SPAN_WORDS * i + 1] {
             return i;
         }
         i += 1;
@@ -153,7 +156,7 @@ fn ended(words: &[u64], count: usize, time: u64) -> usize
 
 // The first span, if there is one, begins no earlier than the time.
 fn raise_first(words: &mut [u64], count: usize, time: u64)
-    requires { ⌜ 2 * count ≤ length (now words) ⌝ }
+    requires { ⌜ spanWords * count ≤ length (now words) ⌝ }
     ensures { λ r. ⌜ now (words .exit) ≡ cond (eqb count 0) (now (words .entry)) (set (now (words .entry)) 0 (max time (getD (now (words .entry)) 0 0))) ⌝ }
 {
     if count == 0 {
@@ -166,15 +169,15 @@ fn raise_first(words: &mut [u64], count: usize, time: u64)
 
 // The span is written after those held, if there is room.
 fn append(words: &mut [u64], held: Held, first: u64, last: u64) -> Held
-    requires { ⌜ 2 * held .count ≤ length (now words) ⌝ }
-    ensures { λ r. ⌜ Written (now (words .entry)) (now (words .exit)) r (fitting (now (words .entry)) (spansHeld (now (words .entry)) held ++ ((first to endAt last) ∷ []))) ⌝ }
+    requires { ⌜ spanWords * held .count ≤ length (now words) ⌝ }
+    ensures { λ r. ⌜ SpansWritten (now (words .entry)) (now (words .exit)) r (fitting (now (words .entry)) (spansHeld (now (words .entry)) held ++ ((first to endAt last) ∷ []))) ⌝ }
 {
     let count = held.count;
-    if words.len() / 2 <= count {
+    if words.len() / SPAN_WORDS <= count {
         return held;
     }
-    words[2 * count] = first;
-    words[2 * count + 1] = last;
+    words[SPAN_WORDS * count] = first;
+    words[SPAN_WORDS * count + 1] = last;
     Held { count: count + 1 }
 }
 

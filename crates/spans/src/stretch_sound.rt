@@ -2,12 +2,13 @@
 
 use crate::stretch::Held;
 use crate::stretch::MARK;
-use crate::words::past_by;
+use crate::stretch::SPAN_WORDS;
 use crate::words::zeros_from;
+use times::time::past_by;
 ghost use mathlib.Core.Path.{_≡_};
 ghost use Prim.Native.Nat.{_≤_, _<_, _+_, _*_};
 ghost use lib.ListN.{length};
-ghost use Rattle.spans.specs.Layout.{mark, endAt, spansHeld};
+ghost use Rattle.spans.specs.Layout.{spanWords, mark, endAt, spansHeld};
 ghost use Rattle.spans.specs.StretchSound.{soundSpan?, soundFrom?, soundEndless?, soundStretch?};
 
 // The spans held begin at the time or later and end at the latest last or before, a gap between each two, those that begin after the time with
@@ -23,24 +24,24 @@ pub fn sound(
     ensures { λ r. ⌜ r ≡ soundStretch? (now (words .entry)) held time «latest_first» (endAt «latest_last») long ⌝ }
 {
     let count = held.count;
-    if words.len() / 2 < count {
+    if words.len() / SPAN_WORDS < count {
         return false;
     }
     if latest_last == MARK {
         if endless(words, held, time, latest_first) {
-            return zeros_from(words, 2 * count);
+            return zeros_from(words, SPAN_WORDS * count);
         }
         return false;
     }
     if ending(words, held, time, latest_last, long) {
-        return zeros_from(words, 2 * count);
+        return zeros_from(words, SPAN_WORDS * count);
     }
     false
 }
 
 // At most one span, with no end.
 fn endless(words: &[u64], held: Held, time: u64, latest_first: u64) -> bool
-    requires { ⌜ 2 * held .count ≤ length (now words) ⌝ }
+    requires { ⌜ spanWords * held .count ≤ length (now words) ⌝ }
     ensures { λ r. ⌜ r ≡ soundEndless? time «latest_first» (spansHeld (now (words .entry)) held) ⌝ }
 {
     let count = held.count;
@@ -61,7 +62,7 @@ fn endless(words: &[u64], held: Held, time: u64, latest_first: u64) -> bool
 
 // Spans with an end. What a span may begin from is the time, then the former last + 2, a sum that might wrap: it is kept as two numbers.
 fn ending(words: &[u64], held: Held, time: u64, latest: u64, long: u64) -> bool
-    requires { ⌜ (2 * held .count ≤ length (now words)) × (latest < mark) ⌝ }
+    requires { ⌜ (spanWords * held .count ≤ length (now words)) × (latest < mark) ⌝ }
     ensures { λ r. ⌜ r ≡ soundFrom? time time latest long (spansHeld (now (words .entry)) held) ⌝ }
 {
     let count = held.count;
@@ -69,8 +70,8 @@ fn ending(words: &[u64], held: Held, time: u64, latest: u64, long: u64) -> bool
     let mut gap = 0;
     let mut i = 0;
     while i < count {
-        let first = words[2 * i];
-        let last = words[2 * i + 1];
+        let first = words[SPAN_WORDS * i];
+        let last = words[SPAN_WORDS * i + 1];
         if sound_span(former, gap, time, latest, long, first, last) {
             former = last;
             gap = 2;

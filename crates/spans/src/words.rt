@@ -1,21 +1,10 @@
-// Moves within a lent row of words, and a comparison with a sum that is never made, since it might wrap. Nothing here knows of spans.
+// Moves within a lent row of words. Nothing here knows of spans.
 
 ghost use mathlib.Core.List.{_++_};
 ghost use mathlib.Core.Path.{_≡_};
 ghost use Prim.Native.Nat.{_≤_, _+_, _-_};
-ghost use lib.Dec.{leb};
 ghost use lib.ListN.{length, take, drop, replicate};
 ghost use Rattle.spans.specs.Layout.{zeros?};
-
-// Whether `to` is at least `from + gap`; the sum itself might wrap.
-pub fn past_by(from: u64, gap: u64, to: u64) -> bool
-    ensures { λ r. ⌜ r ≡ leb (from + gap) to ⌝ }
-{
-    if to < from {
-        return false;
-    }
-    gap <= to - from
-}
 
 // Every word becomes 0.
 pub fn clear_words(words: &mut [u64])

@@ -9,7 +9,7 @@ use native.Mathlib.Omega.{arith}
 use borrow.Author.Tests.{le-leb, lt-leb}
 use lib.Dec.{leb, lit<}
 use lib.ListN.{length, length-set}
-use Rattle.lines.specs.Digits.{Written}
+use Rattle.lines.specs.Digits.{DigitsWritten}
 use Rattle.lines.proofs.WriteLaws.{leftOver, left-over, store-digit, none-left}
 use Rattle.lines.proofs.digits.write_digits.Statement.{statement}
 use Rattle.lines.proofs.digits.write_digits.Tie as tie
@@ -23,7 +23,7 @@ Inv-loop out₀ place n value rest₀ left₀ out rest left =
 abbrev μ-loop : tie.MeasureT-loop
 μ-loop out₀ place n value rest₀ left₀ out rest left = left
 
-no-room : (out : List ℕ) (place n value : ℕ) → length out < place + n → Written out place n value false out
+no-room : (out : List ℕ) (place n value : ℕ) → length out < place + n → DigitsWritten out place n value false out
 no-room out place n value short = let fails : leb (place + n) (length out) ≡ false = lt-leb _ _ short in record { said = sym fails; bytes = rw fails }
 
 returns : tie.Need-returns Inv-loop μ-loop

@@ -15,7 +15,7 @@ use Rattle.meaning.proofs.Tells.{tells-passed}
 use Rattle.rules.specs.Limits.{rowNumbers}
 use Rattle.rules.specs.Kinds.{known}
 use Rattle.rules.specs.Rows.{numbersAt}
-use Rattle.rules.specs.Refusals.{Refused}
+use Rattle.refusals.specs.Refusals.{Refused}
 use Rattle.rules.specs.Stretches.{width, offset}
 use Rattle.rules.specs.Table.{lengthPasses, rowPasses, limitsPass, faultOf, firstFault, refusedBy, checkOf}
 use Rattle.rules.specs.declared.numbers.Numbers.{Numbers}

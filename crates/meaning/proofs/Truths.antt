@@ -1,4 +1,4 @@
--- Laws of `&&`, and what is never so.
+-- Laws of `&&`, what is never so, and going by a test.
 use mathlib.Core.Bool.{Bool, true, false, _&&_}
 use mathlib.Core.Path.{_≡_, refl}
 use native.Mathlib.Omega.{arith}
@@ -22,3 +22,8 @@ and-left false b h = h
 pub and-right : (a b : Bool) → (a && b) ≡ true → b ≡ true
 and-right true b h = h
 and-right false b h = absurd (no-truth h)
+
+-- Going by the outcome of a test.
+pub by-test : {A : Type 0} (test : Bool) → (test ≡ true → A) → (test ≡ false → A) → A
+by-test true holds fails = holds refl
+by-test false holds fails = fails refl

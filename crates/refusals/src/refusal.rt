@@ -2,7 +2,7 @@
 // `number` and `row`, and only this file takes a refusal apart.
 
 ghost use mathlib.Core.Path.{_≡_};
-ghost use Rattle.rules.specs.Refusals.{numberOf, rowOf};
+ghost use Rattle.refusals.specs.Refusals.{numberOf, rowOf};
 
 pub enum Refusal {
     // 1: the table's length is not a multiple of 5, or its rows are not 1 to 64.
@@ -18,11 +18,11 @@ pub enum Refusal {
     // 6: the time is over the limit.
     Late,
     // 7: the record is not sound.
-    Record,
+    Unsound,
     // 8: the line is not as required.
-    Line,
+    BadLine,
     // 9: the line's sum is wrong.
-    Sum,
+    BadSum,
 }
 
 // The number of a refusal.
@@ -36,9 +36,9 @@ pub fn number(r: Refusal) -> u32
         Refusal::Store => 4,
         Refusal::Earlier => 5,
         Refusal::Late => 6,
-        Refusal::Record => 7,
-        Refusal::Line => 8,
-        Refusal::Sum => 9,
+        Refusal::Unsound => 7,
+        Refusal::BadLine => 8,
+        Refusal::BadSum => 9,
     }
 }
 
@@ -53,8 +53,8 @@ pub fn row(r: Refusal) -> u32
         Refusal::Store => 0,
         Refusal::Earlier => 0,
         Refusal::Late => 0,
-        Refusal::Record => 0,
-        Refusal::Line => 0,
-        Refusal::Sum => 0,
+        Refusal::Unsound => 0,
+        Refusal::BadLine => 0,
+        Refusal::BadSum => 0,
     }
 }

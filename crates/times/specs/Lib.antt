@@ -1,0 +1,2 @@
+-- What a reader must believe of times in code.
+pub mod Times
