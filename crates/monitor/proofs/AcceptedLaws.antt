@@ -1,26 +1,27 @@
 -- What is known where a call is not refused: the table passes, the store has room, the record is sound and the time is in order; and so each
 -- row's spans are laid out in its stretch, and those after the event have room there, whatever the truths of the lower rows.
-use mathlib.Core.Bool.{Bool, true, false}
+use mathlib.Core.Bool.{Bool, true, false, not}
 use mathlib.Core.List.{List}
 use mathlib.Core.Option.{Option, none}
 use mathlib.Core.Path.{_≡_, refl, sym, subst}
 use Prim.Native.Nat.{ℕ, _+_, _*_, _≤_, _<_}
 use native.Mathlib.Omega.{arith}
 use lib.Dec.{T, leb}
-use lib.ListN.{length}
+use lib.ListN.{length, getD}
 use borrow.Author.Tests.{leb-true}
 use Rattle.meaning.specs.Interval.{endOf, _+End_}
-use Rattle.meaning.specs.Spans.{reach, update}
+use Rattle.meaning.specs.Spans.{reachedFrom, update}
 use Rattle.meaning.specs.Sound.{lengthOf}
 use Rattle.meaning.specs.Figure.{figure}
-use Rattle.rules.specs.Limits.{spanWords}
+use Rattle.spans.specs.Layout.{spanWords}
 use Rattle.rules.specs.Kinds.{Rule, plain, stretch}
-use Rattle.rules.specs.Rows.{rowsOf, numbersAt, ruleOf, named}
+use Rattle.rules.specs.Rows.{rowsOf, numbersAt, ruleOf, keptBy, fedBy}
 use Rattle.rules.specs.Stretches.{spansSaid, width, offset}
-use Rattle.rules.specs.Refusals.{Refused, _orElse_}
+use Rattle.refusals.specs.Refusals.{Refused, _orElse_}
 use Rattle.rules.specs.declared.numbers.Numbers.{Numbers}
-use Rattle.rules.specs.declared.refusal.Refusal.{Refusal}
-use Rattle.rules.specs.declared.refusal.Refusal.the-variants.{Earlier, Late, Record}
+use Rattle.refusals.specs.declared.refusal.Refusal.{Refusal}
+use Rattle.refusals.specs.declared.refusal.Refusal.the-variants.{Earlier, Late, Unsound}
+use Rattle.meaning.proofs.Truths.{and-right}
 use Rattle.rules.proofs.TableLaws.{or-none}
 use Rattle.rules.proofs.PassedLaws.{InRange, range-order, limit-fits}
 use Rattle.rules.proofs.StretchesLaws.{stretch-before}
@@ -28,19 +29,20 @@ use Rattle.spans.specs.Layout.{Packed}
 use Rattle.spans.proofs.LayoutLaws.{Storable}
 use Rattle.spans.proofs.SoundTold.{SoundStretch, stretch-told}
 use Rattle.spans.proofs.StretchKept.{sound-packed, sound-ready}
-use Rattle.monitor.specs.declared.record.Record as Kept
-use Rattle.monitor.specs.Record.{timeLimit, truthAt, heldAt, stretchAt, spansFound}
-use Rattle.monitor.specs.Soundness.{soundRow?, sound?}
+use Rattle.monitor.specs.declared.record.Record.{Record}
+use Rattle.times.specs.Times.{timeLimit}
+use Rattle.monitor.specs.Record.{wasSeen, truthAt, heldAt, stretchAt, spansFound}
+use Rattle.monitor.specs.Soundness.{soundEntry?, soundLimits?, soundRow?, sound?}
 use Rattle.monitor.specs.Ready.{readyOf, refusalIn}
 use Rattle.monitor.specs.Event.{Moment, spansBy, spansAfter}
 use Rattle.monitor.specs.Step.{Setup, Call, timeOf, unless, refusalOf}
 use Rattle.monitor.proofs.ReadyLaws.{Ready, ready-none}
 use Rattle.monitor.proofs.EventLaws.{length-stretch}
-use Rattle.monitor.proofs.ReachLaws.{reach-storable}
+use Rattle.monitor.proofs.ReachedLaws.{reach-storable}
 use Rattle.monitor.proofs.SoundnessLaws.{every-at, sound-parts}
 
 -- The conditions of a call, each met.
-pub record Accepted (table store : List ℕ) (found : Kept.Record) (time : ℕ) : Type 0 where
+pub record Accepted (table store : List ℕ) (found : Record) (time : ℕ) : Type 0 where
   pub ready : Ready table (length store) (rowsOf table)
   pub sound : sound? table store found ≡ true
   pub early : time ≤ timeLimit
@@ -50,11 +52,11 @@ unless-none : (test : Bool) (refusal : Refusal) → unless test refusal ≡ none
 unless-none true refusal h = refl
 unless-none false refusal h = let z : _≡_ {A = ℕ} 0 1 = cc in absurd (omega arith)
 
-pub accepted : (setup : Setup) (store : List ℕ) (found : Kept.Record) (call : Call) → refusalOf setup store found call ≡ none
+pub accepted : (setup : Setup) (store : List ℕ) (found : Record) (call : Call) → refusalOf setup store found call ≡ none
     → Accepted (setup .table) store found (timeOf (found .time) call)
 unfolding refusalOf
 accepted setup store found call h =
-    let sound : Option Refused = unless (sound? (setup .table) store found) Record in
+    let sound : Option Refused = unless (sound? (setup .table) store found) Unsound in
     let early : Option Refused = unless (leb (timeOf (found .time) call) timeLimit) Late in
     let risen : Option Refused = unless (leb (found .time) (timeOf (found .time) call)) Earlier in
     let first = or-none (refusalIn (readyOf (setup .table) (length store))) (sound orElse early orElse risen) h in
@@ -62,12 +64,12 @@ accepted setup store found call h =
     let third = or-none early risen (second .1) in
     record {
       ready = ready-none (setup .table) (length store) (first .0);
-      sound = unless-none (sound? (setup .table) store found) Record (second .0);
+      sound = unless-none (sound? (setup .table) store found) Unsound (second .0);
       early = leb-true _ _ (unless-none (leb (timeOf (found .time) call) timeLimit) Late (third .0));
       risen = leb-true _ _ (unless-none (leb (found .time) (timeOf (found .time) call)) Earlier (third .1));
     }
 
-module _ (table store : List ℕ) (found : Kept.Record) (time : ℕ) (met : Accepted table store found time) where
+module _ (table store : List ℕ) (found : Record) (time : ℕ) (met : Accepted table store found time) where
   module _ (row : ℕ) (lower : row < rowsOf table) where
     abbrev numbers : Numbers
     numbers = numbersAt table row
@@ -82,15 +84,20 @@ module _ (table store : List ℕ) (found : Kept.Record) (time : ℕ) (met : Acce
     storable =
         reach-storable (found .time) (numbers .b) (omega (arith, met .early, met .risen)) (limit-fits (numbers .a) (numbers .b) range)
 
+    limits-sound : soundLimits? (stretchAt table store row) (heldAt found row) (found .time) (found .time) numbers ≡ true
+    unfolding soundRow?
+    limits-sound =
+        and-right (soundEntry? (wasSeen found) (getD (found .truths) row 0) (getD (found .counts) row 0) numbers)
+        (soundLimits? (stretchAt table store row) (heldAt found row) (found .time) (found .time) numbers)
+        (every-at (rowsOf table) row (soundRow? table store found) lower (sound-parts table store found (met .sound) .rows))
+
     stretch-sound :
         SoundStretch (stretchAt table store row) (heldAt found row) (found .time) (found .time + numbers .a) (found .time +End endOf (numbers .b))
         (lengthOf (numbers .a) (endOf (numbers .b)))
-    unfolding soundRow?
     stretch-sound =
         stretch-told (stretchAt table store row) (heldAt found row) (found .time) (found .time + numbers .a) (found .time +End endOf (numbers .b))
         (lengthOf (numbers .a) (endOf (numbers .b))) storable
-        .sound
-        (subst T (sym (every-at (rowsOf table) row (soundRow? table store found) lower (sound-parts table store found (met .sound) .1))) tt)
+        .sound (subst T (sym limits-sound) tt)
 
     pub row-laid : Packed (stretchAt table store row) (heldAt found row)
     row-laid =
@@ -98,7 +105,7 @@ module _ (table store : List ℕ) (found : Kept.Record) (time : ℕ) (met : Acce
         (heldAt found row) storable stretch-sound
 
     room-for : (keep feed : Bool) → 2 * figure (numbers .a) (endOf (numbers .b)) ≤ length (stretchAt table store row)
-        → 2 * length (update keep feed time (reach time (numbers .a) (endOf (numbers .b))) (spansFound table store found row))
+        → 2 * length (update keep feed time (reachedFrom time (numbers .a) (endOf (numbers .b))) (spansFound table store found row))
         ≤ length (stretchAt table store row)
     room-for keep feed size =
         sound-ready (found .time) time (found .time) (numbers .a) (found .time + numbers .a) (endOf (numbers .b)) (stretchAt table store row)
@@ -106,17 +113,17 @@ module _ (table store : List ℕ) (found : Kept.Record) (time : ℕ) (met : Acce
 
 -- The spans of a row after the event have room, whatever the truths of the lower rows.
 module _ (m : Moment) (met : Accepted (m .table) (m .store) (m .found) (m .time)) (row : ℕ) (lower : row < rowsOf (m .table))
-    (truths : List Bool) where
+    (truths : List ℕ) where
   abbrev N : Numbers
   N = numbersAt (m .table) row
 
   enough-by : (rule : Rule) → length (stretchAt (m .table) (m .store) row) ≡ spanWords * spansSaid rule N
-      → 2 * length (spansBy m truths (spansFound (m .table) (m .store) (m .found) row) N rule) ≤ spanWords * spansSaid rule N
+      → 2 * length (spansBy (m .time) truths (spansFound (m .table) (m .store) (m .found) row) N rule) ≤ spanWords * spansSaid rule N
   enough-by (plain says) size = omega arith
-  enough-by (stretch keep feed) size =
+  enough-by (stretch columns) size =
       rw (← size)
-      (room-for (m .table) (m .store) (m .found) (m .time) met row lower (truthAt truths (named keep N)) (truthAt truths (named feed N))
-      (omega arith))
+      (room-for (m .table) (m .store) (m .found) (m .time) met row lower (keptBy true (truthAt truths) N (columns .keep))
+      (fedBy not (truthAt truths) N columns) (omega arith))
 
   pub row-enough : 2 * length (spansAfter m row truths) ≤ width N
   unfolding spansAfter

@@ -1,20 +1,16 @@
 -- What an event reads of the store, and what it leaves there. A row's spans and truth depend on its own stretch only. Where the spans of each row
 -- have room in its stretch, the store is as long as it was, and the words past the rows' stretches are as found.
-use mathlib.Core.Bool.{Bool}
 use mathlib.Core.List.{List}
 use mathlib.Core.Path.{_≡_, refl}
 use Prim.Native.Nat.{ℕ, zero, suc, _+_, _*_, _≤_, _<_}
 use native.Mathlib.Omega.{arith}
 use lib.ListN.{length, take, drop, length-append, length-drop, length-take}
 use lib.Seq.{take-at, drop-at}
-use Rattle.meaning.specs.Spans.{Span}
-use Rattle.rules.specs.Kinds.{Rule, truth, bit, negation, both, either, previous, plain, stretch}
-use Rattle.rules.specs.Rows.{numbersAt, ruleOf}
+use Rattle.rules.specs.Rows.{numbersAt}
 use Rattle.rules.specs.Stretches.{width, offset}
-use Rattle.rules.specs.declared.numbers.Numbers.{Numbers}
 use Rattle.monitor.specs.declared.record.Record.{Record}
-use Rattle.monitor.specs.Record.{stretchAt, spansFound}
-use Rattle.monitor.specs.Event.{Moment, spansBy, spansAfter, truthBy, truthOf, spansNow, wordsDone, storeAfter}
+use Rattle.monitor.specs.Record.{stretchAt}
+use Rattle.monitor.specs.Event.{Moment, spansAfter, truthOf, spansNow, wordsDone, storeAfter}
 use Rattle.monitor.specs.Core.{moment}
 use Rattle.spans.proofs.LayoutLaws.{length-packed}
 
@@ -32,29 +28,14 @@ module _ (table store other : List ℕ) (found : Record) (time mask : ℕ) where
   abbrev there : Moment
   there = moment table other found time mask
 
-  spans-by-same : (truths : List Bool) (S : List Span) (row : Numbers) (rule : Rule)
-      → spansBy there truths S row rule ≡ spansBy here truths S row rule
-  spans-by-same truths S row (plain says) = refl
-  spans-by-same truths S row (stretch keep feed) = refl
-
-  truth-by-same : (truths : List Bool) (S : List Span) (row : Numbers) (rule : Rule)
-      → truthBy there truths S row rule ≡ truthBy here truths S row rule
-  truth-by-same truths S row (plain truth) = refl
-  truth-by-same truths S row (plain bit) = refl
-  truth-by-same truths S row (plain negation) = refl
-  truth-by-same truths S row (plain both) = refl
-  truth-by-same truths S row (plain either) = refl
-  truth-by-same truths S row (plain previous) = refl
-  truth-by-same truths S row (stretch keep feed) = refl
-
-  module _ (row : ℕ) (truths : List Bool) (same : stretchAt table other row ≡ stretchAt table store row) where
+  module _ (row : ℕ) (truths : List ℕ) (same : stretchAt table other row ≡ stretchAt table store row) where
     pub spans-same : spansAfter there row truths ≡ spansAfter here row truths
     unfolding spansAfter
-    spans-same = rw same (spans-by-same truths (spansFound table store found row) (numbersAt table row) (ruleOf (numbersAt table row)))
+    spans-same = rw same
 
     pub truth-same : truthOf there row truths ≡ truthOf here row truths
     unfolding truthOf
-    truth-same = rw spans-same (truth-by-same truths (spansAfter here row truths) (numbersAt table row) (ruleOf (numbersAt table row)))
+    truth-same = rw spans-same
 
 -- The spans of each row below n have room in its stretch.
 abbrev pub Room : Moment → ℕ → Type 0

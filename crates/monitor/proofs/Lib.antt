@@ -1,10 +1,12 @@
 -- Laws that belong to no one function.
+pub mod RecordLaws
 pub mod ReadyLaws
 pub mod SoundnessLaws
-pub mod ReachLaws
+pub mod ReachedLaws
 pub mod RuleLaws
 pub mod RowLaws
 pub mod EventLaws
+pub mod RisingLaws
 pub mod AcceptedLaws
 pub mod TurnLaws
 pub mod StepLaws

@@ -1,6 +1,6 @@
 -- What an answer says gives the answer back.
 use mathlib.Core.Path.{_≡_, refl, ap}
-use Rattle.rules.proofs.Outcomes.{refusalOf, refusal-back}
+use Rattle.refusals.proofs.Outcomes.{refusalOf, refusal-back}
 use Rattle.monitor.specs.declared.answer.Answer.{Answer}
 use Rattle.monitor.specs.declared.answer.Answer.the-variants as Answer
 use Rattle.monitor.specs.Step.{Reply, verdict, refusal, said}

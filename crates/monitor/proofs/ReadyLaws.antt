@@ -9,9 +9,9 @@ use lib.Dec.{leb}
 use borrow.Author.Tests.{leb-true}
 use Rattle.rules.specs.Rows.{rowsOf}
 use Rattle.rules.specs.Stretches.{needOf}
-use Rattle.rules.specs.Refusals.{refused}
-use Rattle.rules.specs.Table.{Said, passed, refusedBy, checkOf}
-use Rattle.rules.specs.declared.refusal.Refusal.the-variants.{Store}
+use Rattle.refusals.specs.Refusals.{refused}
+use Rattle.rules.specs.Table.{CheckReply, passed, refusedBy, checkOf}
+use Rattle.refusals.specs.declared.refusal.Refusal.the-variants.{Store}
 use Rattle.rules.proofs.PassedLaws.{Passed, passed-gives}
 use Rattle.monitor.specs.Ready.{withRoom, readyOf, refusalIn}
 
@@ -20,7 +20,7 @@ pub record Ready (table : List ℕ) (size rows : ℕ) : Type 0 where
   pub passes : Passed table rows (needOf table)
   pub room : needOf table ≤ size
 
-room-parts : (size rows need : ℕ) (said : Said) → withRoom size said ≡ passed rows need → (said ≡ passed rows need) × (need ≤ size)
+room-parts : (size rows need : ℕ) (said : CheckReply) → withRoom size said ≡ passed rows need → (said ≡ passed rows need) × (need ≤ size)
 room-parts size rows need (refusedBy fault) h = let z : _≡_ {A = ℕ} 0 1 = cc in absurd (omega arith)
 room-parts size rows need (passed r n) h = go (leb n size) refl h
   where
@@ -43,7 +43,7 @@ ready-gives table size rows need h =
     record { passes = rw needed at given; room = omega (arith, parts .1) }
 
 -- The same where no refusal is met, with the table's own row count.
-passed-by : (said : Said) → refusalIn said ≡ none → (rows : ℕ) × (need : ℕ) × (said ≡ passed rows need)
+passed-by : (said : CheckReply) → refusalIn said ≡ none → (rows : ℕ) × (need : ℕ) × (said ≡ passed rows need)
 passed-by (passed rows need) h = (rows, need, refl)
 passed-by (refusedBy fault) h = let z : _≡_ {A = ℕ} 0 1 = cc in absurd (omega arith)
 

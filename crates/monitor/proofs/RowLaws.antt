@@ -1,5 +1,5 @@
--- One row of an event: where its stretch lies, what its spans and its truth become, and that they have room. A row with a stretch, then one without.
-use mathlib.Core.Bool.{Bool, true, false}
+-- One row of an event: what its spans and its truth become, and that they have room. A row with a stretch, then one without.
+use mathlib.Core.Bool.{Bool, true, false, not}
 use mathlib.Core.List.{List, []}
 use mathlib.Core.Path.{_≡_, refl, sym, ap, _∙_}
 use Prim.Native.Nat.{ℕ, _+_, _*_, _-_, _^_, _≤_, _<_}
@@ -7,111 +7,108 @@ use native.Mathlib.Nat.{add-zero}
 use native.Mathlib.Omega.{arith}
 use lib.ListN.{length, take-append-drop}
 use Rattle.meaning.specs.Interval.{endOf}
-use Rattle.meaning.specs.Spans.{Span, reach, update}
-use Rattle.rules.specs.Limits.{rowLimit}
-use Rattle.rules.specs.Kinds.{Rule, plain, stretch, rowX, rowY, hasStretch, ownsStretch}
-use Rattle.rules.specs.Rows.{numbersAt, ruleOf}
+use Rattle.meaning.specs.Spans.{Span, reachedFrom, update}
+use Rattle.rules.specs.Kinds.{Rule, plain, stretch, hasStretch, ownsStretch, columnsOf}
+use Rattle.rules.specs.Rows.{ruleOf, keptBy, feeder, taken}
 use Rattle.rules.specs.Stretches.{spansOf, spansSaid, width}
 use Rattle.rules.specs.declared.numbers.Numbers.{Numbers}
-use Rattle.rules.proofs.Truths.{no-truth}
+use Rattle.rules.specs.declared.stretch.Stretch.{Stretch}
+use Rattle.rules.proofs.KindsLaws.{owned-rule}
+use Rattle.meaning.proofs.Truths.{no-truth}
+use Rattle.spans.specs.declared.stretch.Held.{Held}
 use Rattle.spans.specs.declared.stretch.Updated.{Updated}
 use Rattle.spans.specs.Layout.{wordsOf, packed, spansHeld, Packed}
 use Rattle.spans.specs.Stretch.{covered}
-use Rattle.monitor.specs.Record.{truthAt, heldAt, stretchAt}
-use Rattle.monitor.specs.Event.{Moment, spansBy, spansAfter, truthBy, truthOf}
-use Rattle.monitor.specs.Core.{stretchIn, UpdatedIn, RowReady, RowJudged}
-use Rattle.monitor.proofs.RuleLaws.{owned-rule}
-use Rattle.monitor.proofs.SoundnessLaws.{part-told}
+use Rattle.monitor.specs.declared.event.Arrival.{Arrival}
+use Rattle.monitor.specs.Record.{truthAt}
+use Rattle.monitor.specs.Event.{spansBy, truthBy}
+use Rattle.monitor.specs.Core.{stretchIn, UpdatedIn, spansAfterIn, RowReady, RowJudged}
 
 -- A row without a stretch holds no spans, and its stretch has no words.
-no-spans : (m : Moment) (truths : List Bool) (S : List Span) (row : Numbers) (rule : Rule) → hasStretch rule ≡ false → spansBy m truths S row rule ≡ []
-no-spans m truths S row (plain says) h = refl
-no-spans m truths S row (stretch keep feed) h = absurd (no-truth (sym h))
+no-spans : (time : ℕ) (truths : List ℕ) (S : List Span) (n : Numbers) (rule : Rule) → hasStretch rule ≡ false → spansBy time truths S n rule ≡ []
+no-spans time truths S n (plain says) h = refl
+no-spans time truths S n (stretch columns) h = absurd (no-truth (sym h))
 
-no-words : (row : Numbers) (rule : Rule) → hasStretch rule ≡ false → spansSaid rule row ≡ 0
-no-words row (plain says) h = refl
-no-words row (stretch keep feed) h = absurd (no-truth (sym h))
+no-words : (n : Numbers) (rule : Rule) → hasStretch rule ≡ false → spansSaid rule n ≡ 0
+no-words n (plain says) h = refl
+no-words n (stretch columns) h = absurd (no-truth (sym h))
 
--- What was read of a row that can be judged; then of the rows that a since row names.
-pub record RowRead (m : Moment) (row from : ℕ) (truths : List Bool) (numbers : Numbers) (words : ℕ) : Type 0 where
-  pub ready : RowReady m row from truths
-  pub read : numbers ≡ numbersAt (m .table) row
-  pub size : words ≡ width numbers
+-- What was read of a row that owns a stretch: its columns, and what they pick of the truths.
+pub record StretchRead (truths : List ℕ) (n : Numbers) (columns : Stretch) (keep feed : Bool) : Type 0 where
+  pub owned : ownsStretch (n .kind) ≡ true
+  pub columns-are : columns ≡ columnsOf (ruleOf n)
+  pub kept : keep ≡ keptBy true (truthAt truths) n (columns .keep)
+  pub fed : feed ≡ taken not (columns .when) (truthAt truths (feeder (columns .feed) n))
 
-pub record SinceRead (truths : List Bool) (numbers : Numbers) (keep feed : Bool) : Type 0 where
-  pub owned : ownsStretch (numbers .kind) ≡ true
-  pub x : keep ≡ truthAt truths (numbers .x)
-  pub y : feed ≡ truthAt truths (numbers .y)
+module _
+    {store : List ℕ}
+    {from : ℕ}
+    {n : Numbers}
+    {held : Held}
+    {e : Arrival}
+    {truths : List ℕ}
+    {words : ℕ}
+    (ready : RowReady store from n held e truths)
+    (size : words ≡ width n)
+  where
+    pub ends-within : from + words ≤ length store
+    ends-within = rw size (ready .inside)
 
-module _ {m : Moment} {row from : ℕ} {truths : List Bool} {numbers : Numbers} {words : ℕ} (known : RowRead m row from truths numbers words) where
-  pub x-listed : numbers .x < rowLimit
-  x-listed = rw (known .read) (known .ready .x-listed)
+    module _ {columns : Stretch} {keep feed : Bool} (names : StretchRead truths n columns keep feed) where
+      rule : ruleOf n ≡ stretch columns
+      rule = owned-rule (ruleOf n) (names .owned) ∙ ap stretch (sym (names .columns-are))
 
-  pub y-listed : numbers .y < rowLimit
-  y-listed = rw (known .read) (known .ready .y-listed)
+      abbrev updated : List Span
+      updated =
+          update keep feed (e .time) (reachedFrom (e .time) (n .a) (endOf (n .b))) (spansHeld (stretchIn from (from + words) store) held)
 
-  pub ends-within : from + words ≤ length (m .store)
-  ends-within = rw (known .size, known .read) (known .ready .inside)
+      stretch-spans : updated ≡ spansAfterIn store from n held e truths
+      stretch-spans = rw (size, rule, names .kept, names .fed)
 
-  part : stretchIn from (from + words) (m .store) ≡ stretchAt (m .table) (m .store) row
-  part = part-told (m .table) (m .store) row (known .read) (known .ready .place) (known .size)
+      pub stretch-laid : Packed (stretchIn from (from + words) store) held
+      stretch-laid = rw size (ready .laid)
 
-  module _ {keep feed : Bool} (names : SinceRead truths numbers keep feed) where
-    rule : ruleOf (numbersAt (m .table) row) ≡ stretch rowX rowY
-    rule = owned-rule (numbersAt (m .table) row .kind) (rw (known .read) at (names .owned))
+      pub stretch-room : 2 * length updated ≤ from + words - from
+      stretch-room =
+          let all : from + words - from ≡ words = omega arith in
+          rw (stretch-spans, all, size) (ready .enough)
 
-    abbrev updated : List Span
-    updated =
-        update keep feed (m .time) (reach (m .time) (numbers .a) (endOf (numbers .b)))
-        (spansHeld (stretchIn from (from + words) (m .store)) (heldAt (m .found) row))
+      truth-stretch : (found : List ℕ) (S : List Span) → truthBy e found truths S n (ruleOf n) ≡ taken not (columns .inside) (covered (e .time) S)
+      truth-stretch found S = rw rule
 
-    since-spans : updated ≡ spansAfter m row truths
-    unfolding spansAfter
-    since-spans = rw (rule, part, names .x, names .y, known .read)
+      module _ {after : List ℕ} {judged : Updated} (done : UpdatedIn from (from + words) store after judged (e .time) updated) where
+        count-is : judged .held .count ≡ length (spansAfterIn store from n held e truths)
+        count-is = done .counted ∙ ap length stretch-spans
 
-    pub since-laid : Packed (stretchIn from (from + words) (m .store)) (heldAt (m .found) row)
-    since-laid = rw part (known .ready .laid)
+        pub stretch-count : judged .held .count < 2 ^ 32
+        stretch-count = omega (arith, count-is, ready .enough, ready .few)
 
-    pub since-room : 2 * length updated ≤ from + words - from
-    since-room =
-        let e : from + words - from ≡ words = omega arith in
-        rw (since-spans, e, known .size, known .read) (known .ready .enough)
+        pub stretch-judged : {found : List ℕ} {truth : Bool}
+            → truth ≡ taken not (columns .inside) (judged .covered)
+            → RowJudged store from n held e found truths after (record { truth = truth; count = judged .held .count; end = from + words })
+        stretch-judged {found} told =
+            let all : from + words - from ≡ words = omega arith in
+            record {
+              truth = rw (told, done .told, stretch-spans) (sym (truth-stretch found (spansAfterIn store from n held e truths)));
+              count = count-is;
+              end = rw size;
+              written = done .written ∙ rw (stretch-spans, all, size);
+            }
 
-    truth-since : truthOf m row truths ≡ covered (m .time) (spansAfter m row truths)
-    unfolding truthOf
-    truth-since = rw rule
+    module _ (bare : ownsStretch (n .kind) ≡ false) where
+      none : spansAfterIn store from n held e truths ≡ []
+      none = no-spans (e .time) truths _ n (ruleOf n) bare
 
-    module _ {after : List ℕ} {judged : Updated} (done : UpdatedIn from (from + words) (m .store) after judged (m .time) updated) where
-      count-is : judged .held .count ≡ length (spansAfter m row truths)
-      count-is = done .counted ∙ ap length since-spans
+      narrow : spansOf n ≡ 0
+      narrow = no-words n (ruleOf n) bare
 
-      pub since-count : judged .held .count < 2 ^ 32
-      since-count = omega (arith, count-is, known .ready .enough, known .ready .few)
-
-      pub since-judged : RowJudged m row from truths after (record { truth = judged .covered; count = judged .held .count; end = from + words })
-      since-judged =
-          let e : from + words - from ≡ words = omega arith in
+      pub plain-judged : {truth : Bool} {found : List ℕ} → truth ≡ truthBy e found truths (spansAfterIn store from n held e truths) n (ruleOf n)
+          → RowJudged store from n held e found truths store (record { truth = truth; count = 0; end = from + words })
+      unfolding packed wordsOf
+      plain-judged told =
           record {
-            truth = done .told ∙ rw (since-spans, truth-since);
-            count = count-is;
-            end = rw (known .size, known .read);
-            written = done .written ∙ rw (since-spans, e, known .size, known .read);
+            truth = told;
+            count = rw none;
+            end = rw size;
+            written = rw (none, narrow, add-zero) (sym (take-append-drop from store));
           }
-
-  module _ {truth : Bool} (bare : ownsStretch (numbers .kind) ≡ false) (told : truth ≡ truthBy m truths (spansAfter m row truths) numbers (ruleOf numbers)) where
-    none : spansAfter m row truths ≡ []
-    unfolding spansAfter
-    none = no-spans m truths _ (numbersAt (m .table) row) (ruleOf (numbersAt (m .table) row)) (rw (known .read) at bare)
-
-    narrow : spansOf (numbersAt (m .table) row) ≡ 0
-    narrow = no-words (numbersAt (m .table) row) (ruleOf (numbersAt (m .table) row)) (rw (known .read) at bare)
-
-    pub plain-judged : RowJudged m row from truths (m .store) (record { truth = truth; count = 0; end = from + words })
-    unfolding truthOf packed wordsOf
-    plain-judged =
-        record {
-          truth = rw (known .read) at told;
-          count = rw none;
-          end = rw (known .size, known .read);
-          written = rw (none, narrow, add-zero) (sym (take-append-drop from (m .store)));
-        }

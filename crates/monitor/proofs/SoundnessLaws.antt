@@ -1,41 +1,31 @@
--- Laws of the soundness of a record: a test of every row, by rows, and what the code's tests of a row and of a stretch tell.
-use mathlib.Core.Bool.{Bool, true, false, not, _&&_, _||_}
-use mathlib.Core.List.{List}
+-- Laws of the soundness of a record: a test of every row, by rows, what the code's tests of a row tell, and which test decides.
+use mathlib.Core.Bool.{Bool, true, false, _&&_, _||_}
+use mathlib.Core.List.{List, [], _∷_}
 use mathlib.Core.Logic.{⊎-elim}
-use mathlib.Core.Path.{_≡_, refl, sym, ap}
+use mathlib.Core.Path.{_≡_, refl, sym}
 use Prim.Native.Nat.{ℕ, zero, suc, _+_, _-_, _≤_, _<_}
 use native.Mathlib.Nat.{eq-or-lt-of-le, le-of-suc-le-suc}
 use native.Mathlib.Numerals.{add-one}
 use native.Mathlib.Omega.{arith}
-use lib.Dec.{leb, ltb, eqb}
-use lib.ListN.{getD, take, drop}
-use borrow.Author.Tests.{le-leb, leb-true, eqb-true, eq-eqb, ne-eqb}
-use Rattle.meaning.specs.Interval.{endOf, _+End_}
+use lib.Dec.{leb, eqb}
+use lib.ListN.{length, getD, take, drop}
+use borrow.Author.Tests.{lt-ltb, le-ltb, le-leb, leb-true, eqb-true, eq-eqb, ne-eqb}
+use Rattle.meaning.specs.Interval.{End, upTo, noEnd, endOf, _+End_}
 use Rattle.meaning.specs.Sound.{lengthOf}
 use Rattle.rules.specs.Limits.{rowLimit}
 use Rattle.rules.specs.Rows.{rowsOf, numbersAt}
 use Rattle.rules.specs.Stretches.{spansOf, width, offset}
 use Rattle.rules.specs.declared.numbers.Numbers.{Numbers}
-use Rattle.rules.proofs.Truths.{and-false, and-left, and-right}
+use Rattle.meaning.proofs.Truths.{and-false, and-left, and-right}
 use Rattle.rules.proofs.StretchesLaws.{stretch-before}
-use Rattle.spans.specs.StretchSound.{soundStretch?}
+use Rattle.spans.specs.Layout.{spansFrom, zeros?}
+use Rattle.spans.specs.StretchSound.{soundFrom?, soundEndless?, soundSpans?, soundStretch?}
 use Rattle.monitor.specs.declared.record.Record.{Record}
-use Rattle.monitor.specs.Record.{timeLimit, truthAt, heldAt, stretchAt}
-use Rattle.monitor.specs.Soundness.{every, soundEntry?, soundRow?, sound?}
+use Rattle.times.specs.Times.{timeLimit}
+use Rattle.monitor.specs.Record.{isTrue, wasSeen, heldAt, stretchAt}
+use Rattle.monitor.specs.Core.{recordOf}
+use Rattle.monitor.specs.Soundness.{every, truthByte?, soundEntry?, soundLimits?, soundRow?, zeroPast?, soundTime?, sound?}
 use Rattle.monitor.proofs.ReadyLaws.{Ready}
-
--- Tests of which one is known.
-pub second-fails : (a b : Bool) → (a && false && b) ≡ false
-second-fails true b = refl
-second-fails false b = refl
-
-pub or-true : (a : Bool) → (a || true) ≡ true
-or-true true = refl
-or-true false = refl
-
-pub or-false : (a : Bool) → (a || false) ≡ a
-or-false true = refl
-or-false false = refl
 
 -- A time of 0 is within every limit.
 pub zero-told : (time limit : ℕ) → eqb time 0 ≡ (eqb time 0 && leb time limit)
@@ -71,19 +61,10 @@ every-at (suc n) r test lower h =
     (λ further. every-at n r test further (and-left (every n test) (test n) h))
     (eq-or-lt-of-le (le-of-suc-le-suc lower))
 
--- What was read of a row and tested is the row's entry.
-pub entry-told :
-    (table : List ℕ) (found : Record) (row : ℕ) {numbers : Numbers} {spans rows : ℕ} {answer : Bool}
-    → numbers ≡ numbersAt table row
-    → spans ≡ spansOf numbers
-    → rows ≡ rowsOf table
-    → answer
-    ≡ ((ltb row rows || not (truthAt (found .truths) row))
-    && leb (getD (found .counts) row 0) spans
-    && (found .seen || (not (truthAt (found .truths) row) && eqb (getD (found .counts) row 0) 0)))
-    → answer ≡ soundEntry? table found row
-unfolding soundEntry?
-entry-told table found row read needed count told = rw (told, needed, read, count)
+pub every-all : (n : ℕ) (test : ℕ → Bool) → ((r : ℕ) → r < n → test r ≡ true) → every n test ≡ true
+unfolding every
+every-all zero test all = refl
+every-all (suc n) test all = rw (every-all n test (λ r lower. all r (omega arith)), all n (omega arith))
 
 -- The part of the store that is lent for a row is its stretch, and what was tested of it is the row's.
 pub part-told : (table store : List ℕ) (row : ℕ) {numbers : Numbers} {from words : ℕ} → numbers ≡ numbersAt table row → from ≡ offset table row
@@ -100,11 +81,31 @@ pub row-told :
     → from ≡ offset table row
     → words ≡ width numbers
     → answer
-    ≡ soundStretch? (take (from + words - from) (drop from store)) (heldAt found row) (found .time) (found .time + numbers .a)
-    (found .time +End endOf (numbers .b)) (lengthOf (numbers .a) (endOf (numbers .b)))
+    ≡ (soundEntry? (wasSeen found) (getD (found .truths) row 0) (getD (found .counts) row 0) numbers
+    && soundLimits? (take (from + words - from) (drop from store)) (heldAt found row) (found .time) (found .time) numbers)
     → answer ≡ soundRow? table store found row
 unfolding soundRow?
 row-told table store found row read place size told = rw (told, part-told table store row read place size, read)
+
+-- A sound entry's count is within the figure.
+pub entry-within : (seen : Bool) (truth count : ℕ) (numbers : Numbers) → soundEntry? seen truth count numbers ≡ true → count ≤ spansOf numbers
+entry-within seen truth count numbers h =
+    leb-true _ _
+    (and-right (truthByte? truth) (leb count (spansOf numbers))
+    (and-left (truthByte? truth && leb count (spansOf numbers)) (seen || (eqb truth 0 && eqb count 0)) h))
+
+-- A stretch of no words holds nothing, and so is sound.
+no-spans-sound : (now latestFirst long : ℕ) (latestLast : End) → soundSpans? now latestFirst latestLast long [] ≡ true
+unfolding soundSpans? soundFrom? soundEndless?
+no-spans-sound now latestFirst long (upTo last) = refl
+no-spans-sound now latestFirst long noEnd = refl
+
+pub bare-sound : (words : List ℕ) (count time : ℕ) (numbers : Numbers) → length words ≡ 0 → count ≡ 0
+    → soundLimits? words (record { count = count }) time time numbers ≡ true
+unfolding soundStretch? spansFrom zeros?
+bare-sound [] count time numbers size none =
+    rw (none, no-spans-sound time (time + numbers .a) (lengthOf (numbers .a) (endOf (numbers .b))) (time +End endOf (numbers .b)))
+bare-sound (word ∷ words) count time numbers size none = absurd (omega arith)
 
 -- Where a row's stretch ends, and that it does so within the store.
 pub offset-next : (table : List ℕ) (row : ℕ) {numbers : Numbers} {from words : ℕ} → numbers ≡ numbersAt table row → from ≡ offset table row
@@ -123,41 +124,72 @@ stretch-fits table size rows row ready lower read place said =
     let inside : offset table row + width (numbersAt table row) ≤ offset table (rowsOf table) = stretch-before table row (rowsOf table) (omega arith) in
     rw (place, said, read) (omega (arith, ready .room))
 
--- A sound record's time is within the limit, and every stretch is sound.
-pub sound-parts : (table store : List ℕ) (found : Record) → sound? table store found ≡ true
-    → (found .time ≤ timeLimit) × (every (rowsOf table) (soundRow? table store found) ≡ true)
+-- The rows by a count that is the table's.
+pub rows-counted : (table store : List ℕ) (seen time count rows : ℕ) (truths counts : List ℕ) {answer : Bool} → count ≡ rows → rows ≡ rowsOf table
+    → answer ≡ every rows (soundRow? table store (recordOf seen time rows truths counts))
+    → every (rowsOf table) (soundRow? table store (recordOf seen time count truths counts)) ≡ answer
+rows-counted table store seen time count rows truths counts same counted told = rw (told, ← counted, same)
+
+-- What stands past the rows of the table: nothing is asked of the rows themselves, and each later one decides by its truth, then by its count.
+module _ (rows : ℕ) (truths counts : List ℕ) where
+  pub none-past : every rows (zeroPast? rows truths counts) ≡ true
+  unfolding zeroPast?
+  none-past = every-all rows (zeroPast? rows truths counts) (λ row lower. rw (lt-ltb row rows lower))
+
+  module _ {row : ℕ} (past : rows ≤ row) where
+    pub past-true : ¬ (getD truths row 0 ≡ 0) → zeroPast? rows truths counts row ≡ false
+    unfolding zeroPast?
+    past-true set = rw (le-ltb _ _ past, ne-eqb _ _ set)
+
+    pub past-counted : getD truths row 0 ≡ 0 → ¬ (getD counts row 0 ≡ 0) → zeroPast? rows truths counts row ≡ false
+    unfolding zeroPast?
+    past-counted unset counted = rw (le-ltb _ _ past, eq-eqb _ _ unset, ne-eqb _ _ counted)
+
+    pub past-zero : getD truths row 0 ≡ 0 → getD counts row 0 ≡ 0 → zeroPast? rows truths counts row ≡ true
+    unfolding zeroPast?
+    past-zero unset none = rw (le-ltb _ _ past, eq-eqb _ _ unset, eq-eqb _ _ none)
+
+-- What a sound record gives: its row count is the table's, its time is within the limit, and every row is sound.
+pub record SoundParts (table store : List ℕ) (found : Record) : Type 0 where
+  pub counted : found .rows ≡ rowsOf table
+  pub early : found .time ≤ timeLimit
+  pub rows : every (rowsOf table) (soundRow? table store found) ≡ true
+
+pub time-within : (seen time : ℕ) → soundTime? seen time ≡ true → time ≤ timeLimit
+time-within seen time h = leb-true _ _ (and-right (truthByte? seen && (isTrue seen || eqb time 0)) (leb time timeLimit) h)
+
+pub sound-parts : (table store : List ℕ) (found : Record) → sound? table store found ≡ true → SoundParts table store found
 unfolding sound?
 sound-parts table store found h =
-    let first : Bool = eqb (found .rows) (rowsOf table) && every rowLimit (soundEntry? table found) && (found .seen || eqb (found .time) 0) in
-    let early : Bool = leb (found .time) timeLimit in
-    let last : Bool = every (rowsOf table) (soundRow? table store found) in
-    (leb-true _ _ (and-right first early (and-left (first && early) last h)), and-right (first && early) last h)
+    let count : Bool = eqb (found .rows) (rowsOf table) in
+    let timely : Bool = soundTime? (found .seen) (found .time) in
+    let rows : Bool = every (rowsOf table) (soundRow? table store found) in
+    let past : Bool = every rowLimit (zeroPast? (rowsOf table) (found .truths) (found .counts)) in
+    let three = and-left (count && timely && rows) past h in
+    let two = and-left (count && timely) rows three in
+    record {
+      counted = eqb-true _ _ (and-left count timely two);
+      early = time-within (found .seen) (found .time) (and-right count timely two);
+      rows = and-right (count && timely) rows three;
+    }
 
 -- Which test decides.
 module _ (table store : List ℕ) (found : Record) where
-  pub unsound-rows : (found .rows ≡ rowsOf table → ⊥) → sound? table store found ≡ false
+  pub unsound-count : ¬ (found .rows ≡ rowsOf table) → sound? table store found ≡ false
   unfolding sound?
-  unsound-rows differ = rw (ne-eqb _ _ differ)
+  unsound-count differ = rw (ne-eqb _ _ differ)
 
-  module _ (rows : found .rows ≡ rowsOf table) where
-    pub unsound-entries : every rowLimit (soundEntry? table found) ≡ false → sound? table store found ≡ false
+  module _ (count : found .rows ≡ rowsOf table) where
+    pub unsound-time : soundTime? (found .seen) (found .time) ≡ false → sound? table store found ≡ false
     unfolding sound?
-    unsound-entries entries = rw (eq-eqb _ _ rows, entries)
+    unsound-time late = rw (eq-eqb _ _ count, late)
 
-    -- The record's own tests pass as far as its time; then the time and the stretches decide.
-    module _
-        {timely : Bool}
-        (entries : every rowLimit (soundEntry? table found) ≡ true)
-        (told : timely ≡ ((found .seen || eqb (found .time) 0) && leb (found .time) timeLimit))
-      where
-        further : sound? table store found ≡ (timely && every (rowsOf table) (soundRow? table store found))
-        unfolding sound?
-        further = rw (eq-eqb _ _ rows, entries) (ap (λ (b : Bool). b && every (rowsOf table) (soundRow? table store found)) (sym told))
+    module _ (timely : soundTime? (found .seen) (found .time) ≡ true) where
+      pub unsound-row : every (rowsOf table) (soundRow? table store found) ≡ false → sound? table store found ≡ false
+      unfolding sound?
+      unsound-row rows = rw (eq-eqb _ _ count, timely, rows)
 
-        pub unsound-time : timely ≡ false → sound? table store found ≡ false
-        unsound-time late = rw (further, late)
-
-        pub sound-by-stretches : {answer : Bool} {count : ℕ} → timely ≡ true → count ≡ rowsOf table
-            → answer ≡ every count (soundRow? table store found)
-            → answer ≡ sound? table store found
-        sound-by-stretches early counted all = rw (further, early, all, counted)
+      pub sound-by-past : every (rowsOf table) (soundRow? table store found) ≡ true
+          → every rowLimit (zeroPast? (rowsOf table) (found .truths) (found .counts)) ≡ sound? table store found
+      unfolding sound?
+      sound-by-past rows = rw (eq-eqb _ _ count, timely, rows)

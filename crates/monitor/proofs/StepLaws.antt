@@ -1,58 +1,66 @@
 -- Which refusal decides a call, and what a call leaves by it.
-use mathlib.Core.Bool.{Bool, true, false}
+use mathlib.Core.Bool.{Bool, true, false, cond}
 use mathlib.Core.List.{List}
 use mathlib.Core.Option.{Option, none, some}
 use mathlib.Core.Path.{_≡_, refl, sym}
 use Prim.Native.Nat.{ℕ, _-_, _≤_, _<_}
 use native.Mathlib.Omega.{arith}
+use lib.Dec.{leb}
 use lib.ListN.{length}
-use borrow.Author.Tests.{le-leb, lt-leb}
+use borrow.Author.Tests.{le-leb, lt-leb, leb-false}
 use Rattle.meaning.specs.FrameTime.{frameTime}
 use Rattle.rules.specs.Rows.{rowsOf}
-use Rattle.rules.specs.Refusals.{Refused, refused, _orElse_}
-use Rattle.rules.specs.Table.{Said, passed, refusedBy}
-use Rattle.rules.specs.declared.refusal.Refusal.the-variants.{Earlier, Late, Record}
-use Rattle.monitor.specs.declared.record.Record as Kept
-use Rattle.monitor.specs.Record.{timeLimit, truthAt}
+use Rattle.refusals.specs.Refusals.{Refused, refused, _orElse_}
+use Rattle.meaning.proofs.Truths.{zero-not-one}
+use Rattle.rules.specs.Table.{CheckReply, passed, refusedBy}
+use Rattle.refusals.specs.declared.refusal.Refusal.{Refusal}
+use Rattle.refusals.specs.declared.refusal.Refusal.the-variants.{Earlier, Late, Unsound}
+use Rattle.monitor.specs.declared.record.Record.{Record}
+use Rattle.monitor.specs.declared.event.Arrival.{Arrival}
+use Rattle.monitor.specs.declared.answer.Answer.{Answer}
+use Rattle.monitor.specs.declared.answer.Answer.the-variants as Answer
+use Rattle.times.specs.Times.{timeLimit}
+use Rattle.monitor.specs.Record.{truthAt}
 use Rattle.monitor.specs.Soundness.{sound?}
 use Rattle.monitor.specs.Ready.{readyOf, refusalIn}
-use Rattle.monitor.specs.Step.{Setup, setupOf, Call, event, frame, timeOf, unless, refusalOf, verdict, refusal, stepOf}
-use Rattle.monitor.specs.Event.{recordAfter}
-use Rattle.monitor.specs.Core.{withSound, fitOf, moment, AfterRows}
+use Rattle.monitor.specs.Step.{Setup, setupOf, Call, event, frame, timeOf, unless, refusalOf, momentOf, verdict, refusal, outcomeBy, stepOf, said}
+use Rattle.monitor.specs.Event.{Moment, recordAfter}
+use Rattle.monitor.specs.Core.{withSound, fitOf, moment, AfterRows, LeftIn, recordLeft}
 use Rattle.monitor.proofs.ReadyLaws.{ready-gives}
+use Rattle.monitor.proofs.SoundnessLaws.{sound-parts}
 
--- A refused call leaves the record and the store as they were.
-pub step-refused : (setup : Setup) (store : List ℕ) (found : Kept.Record) (call : Call) (fault : Refused)
-    → refusalOf setup store found call ≡ some fault
-    → record { reply = refusal fault; left = found; store = store } ≡ stepOf setup store found call
+-- A refused call leaves the arrays and the store as they were.
+pub left-refused : (setup : Setup) (store : List ℕ) (found : Record) (call : Call) (fault : Refusal)
+    → refusalOf setup store found call ≡ some (refused fault)
+    → LeftIn (stepOf setup store found call) (Answer.Refused fault) (found .truths) (found .counts) store
 unfolding stepOf
-step-refused setup store found call fault h = rw h
+left-refused setup store found call fault h = record { replied = rw h; truths-are = rw h; counts-are = rw h; store-is = rw h }
 
 -- 1 to 4 and 7.
-fit-refused-by : (sound : Bool) (ready : Said) (rest : Option Refused) (fault : Refused) → refusedBy fault ≡ withSound sound ready
-    → (refusalIn ready orElse unless sound Record orElse rest) ≡ some fault
+fit-refused-by : (sound : Bool) (ready : CheckReply) (rest : Option Refused) (fault : Refused) → refusedBy fault ≡ withSound sound ready
+    → (refusalIn ready orElse unless sound Unsound orElse rest) ≡ some fault
 fit-refused-by sound (refusedBy other) rest fault h = cc
 fit-refused-by true (passed rows need) rest fault h = let z : _≡_ {A = ℕ} 0 1 = cc in absurd (omega arith)
 fit-refused-by false (passed rows need) rest fault h = cc
 
-pub fit-refused : (setup : Setup) (store : List ℕ) (found : Kept.Record) (call : Call) (fault : Refused) → refusedBy fault ≡ fitOf (setup .table) store found
+pub fit-refused : (setup : Setup) (store : List ℕ) (found : Record) (call : Call) (fault : Refused) → refusedBy fault ≡ fitOf (setup .table) store found
     → refusalOf setup store found call ≡ some fault
 unfolding refusalOf fitOf
 fit-refused setup store found call fault h =
     fit-refused-by (sound? (setup .table) store found) (readyOf (setup .table) (length store)) _ fault h
 
 -- None of them: what is left to judge by.
-pub record Fit (table store : List ℕ) (found : Kept.Record) (rows : ℕ) : Type 0 where
+pub record Fit (table store : List ℕ) (found : Record) (rows : ℕ) : Type 0 where
   pub ready : refusalIn (readyOf table (length store)) ≡ none
   pub counted : rows ≡ rowsOf table
   pub sound : sound? table store found ≡ true
 
-fit-parts : (sound : Bool) (ready : Said) (rows need : ℕ) → passed rows need ≡ withSound sound ready → (ready ≡ passed rows need) × (sound ≡ true)
+fit-parts : (sound : Bool) (ready : CheckReply) (rows need : ℕ) → passed rows need ≡ withSound sound ready → (ready ≡ passed rows need) × (sound ≡ true)
 fit-parts true (passed r n) rows need h = (sym h, refl)
 fit-parts false (passed r n) rows need h = let z : _≡_ {A = ℕ} 0 1 = cc in absurd (omega arith)
 fit-parts sound (refusedBy fault) rows need h = let z : _≡_ {A = ℕ} 0 1 = cc in absurd (omega arith)
 
-pub fit-gives : (table store : List ℕ) (found : Kept.Record) (rows need : ℕ) → passed rows need ≡ fitOf table store found → Fit table store found rows
+pub fit-gives : (table store : List ℕ) (found : Record) (rows need : ℕ) → passed rows need ≡ fitOf table store found → Fit table store found rows
 unfolding fitOf
 fit-gives table store found rows need h =
     let parts = fit-parts (sound? table store found) (readyOf table (length store)) rows need h in
@@ -63,7 +71,7 @@ fit-gives table store found rows need h =
     }
 
 -- Then 6, then 5, then none.
-module _ (setup : Setup) (store : List ℕ) (found : Kept.Record) (call : Call) (ready : refusalIn (readyOf (setup .table) (length store)) ≡ none) (sound : sound? (setup .table) store found ≡ true) where
+module _ (setup : Setup) (store : List ℕ) (found : Record) (call : Call) (ready : refusalIn (readyOf (setup .table) (length store)) ≡ none) (sound : sound? (setup .table) store found ≡ true) where
   pub late : timeLimit < timeOf (found .time) call → refusalOf setup store found call ≡ some (refused Late)
   unfolding refusalOf
   late over = rw (ready, sound, lt-leb _ _ over)
@@ -77,23 +85,73 @@ module _ (setup : Setup) (store : List ℕ) (found : Kept.Record) (call : Call) 
     unfolding refusalOf
     unrefused risen = rw (ready, sound, le-leb _ _ early, le-leb _ _ risen)
 
--- A frame is the event at its time.
-pub frame-is-event : (setup : Setup) (store : List ℕ) (found : Kept.Record) (counter mask : ℕ)
+-- A frame is the event at its time; where the last time is over the limit the record is not sound, and the event at any time is refused alike.
+frame-is-event : (setup : Setup) (store : List ℕ) (found : Record) (counter mask : ℕ)
     → stepOf setup store found (frame counter mask) ≡ stepOf setup store found (event (frameTime (found .time) counter) mask)
 unfolding stepOf refusalOf
 frame-is-event setup store found counter mask = refl
 
+over-unsound : (table store : List ℕ) (found : Record) → timeLimit < found .time → sound? table store found ≡ false
+over-unsound table store found over = go (sound? table store found) refl
+  where
+    go : (answer : Bool) → sound? table store found ≡ answer → answer ≡ false
+    go true h = absurd (omega (arith, sound-parts table store found h .early))
+    go false h = refl
+
+refused-alike : (setup : Setup) (store : List ℕ) (found : Record) (m other : Moment) (first : Option Refused) (fault : Refused)
+    → outcomeBy setup store found m (first orElse some fault) ≡ outcomeBy setup store found other (first orElse some fault)
+refused-alike setup store found m other none fault = refl
+refused-alike setup store found m other (some earlier) fault = refl
+
+pub frame-at : (setup : Setup) (store : List ℕ) (found : Record) (counter mask : ℕ)
+    → stepOf setup store found (frame counter mask)
+    ≡ stepOf setup store found (event (cond (leb (found .time) timeLimit) (frameTime (found .time) counter) 0) mask)
+unfolding stepOf refusalOf
+frame-at setup store found counter mask = go (leb (found .time) timeLimit) refl
+  where
+    go : (timely : Bool) → leb (found .time) timeLimit ≡ timely
+        → stepOf setup store found (frame counter mask) ≡ stepOf setup store found (event (cond timely (frameTime (found .time) counter) 0) mask)
+    go true h = frame-is-event setup store found counter mask
+    go false h =
+        rw (over-unsound (setup .table) store found (leb-false _ _ h))
+        (refused-alike setup store found _ _ (refusalIn (readyOf (setup .table) (length store))) (refused Unsound))
+
 -- An accepted event leaves what the rows left, and its verdict is the last row's truth.
-pub step-accepted : (table store : List ℕ) (found : Kept.Record) (time mask rows : ℕ) (truths : List Bool) (counts after : List ℕ)
+pub left-accepted : (table store : List ℕ) (found : Record) (time mask rows : ℕ) (truths counts after : List ℕ)
     → refusalOf (setupOf table) store found (event time mask) ≡ none
     → rows ≡ rowsOf table
     → AfterRows (moment table store found time mask) rows truths counts after
-    → record {
-      reply = verdict (truthAt truths (rows - 1));
-      left = record { seen = true; time = time; rows = found .rows; truths = truths; counts = counts };
-      store = after;
-    }
-    ≡ stepOf (setupOf table) store found (event time mask)
+    → LeftIn (stepOf (setupOf table) store found (event time mask)) (Answer.Verdict (truthAt truths (rows - 1))) truths counts after
 unfolding stepOf recordAfter
-step-accepted table store found time mask rows truths counts after h counted done =
-    rw (h, done .truths-are, done .counts-are, done .store-is, counted)
+left-accepted table store found time mask rows truths counts after h counted done =
+    record {
+      replied = rw (h, done .truths-are, counted);
+      truths-are = rw (h, done .truths-are, counted);
+      counts-are = rw (h, done .counts-are, counted);
+      store-is = rw (h, done .store-is, counted);
+    }
+
+-- The record that is given beside the answer is the outcome's.
+not-both : {holds : Bool} {fault : Refused} → ¬ (verdict holds ≡ refusal fault)
+not-both same = zero-not-one cc
+
+module _ (setup : Setup) (store : List ℕ) (found : Record) (time mask : ℕ) where
+  abbrev arrived : Arrival
+  arrived = record { time = time; mask = mask; seen = found .seen; last = found .time }
+
+  module _ {truths counts after : List ℕ} where
+    given-by : (o : Option Refused) (answer : Answer)
+        → LeftIn (outcomeBy setup store found (momentOf setup store found (event time mask)) o) answer truths counts after
+        → record { reply = said answer; left = recordLeft answer arrived (found .rows) truths counts; store = after }
+        ≡ outcomeBy setup store found (momentOf setup store found (event time mask)) o
+    unfolding recordAfter
+    given-by none (Answer.Verdict holds) left = rw (left .replied, left .truths-are, left .counts-are, left .store-is)
+    given-by none (Answer.Refused fault) left = absurd (not-both (sym (left .replied)))
+    given-by (some fault) (Answer.Verdict holds) left = absurd (not-both (left .replied))
+    given-by (some fault) (Answer.Refused other) left = rw (left .replied, left .truths-are, left .counts-are, left .store-is)
+
+    pub step-given : (answer : Answer) → LeftIn (stepOf setup store found (event time mask)) answer truths counts after
+        → record { reply = said answer; left = recordLeft answer arrived (found .rows) truths counts; store = after }
+        ≡ stepOf setup store found (event time mask)
+    unfolding stepOf
+    step-given answer left = given-by (refusalOf setup store found (event time mask)) answer left

@@ -1,35 +1,45 @@
--- What the private functions of src/event and src/step ask and leave. No public contract cites this file.
-use mathlib.Core.Bool.{Bool, cond}
+-- What the private functions of src/event, src/soundness and src/step ask and leave. No public contract cites this file.
+use mathlib.Core.Bool.{Bool, true, cond}
 use mathlib.Core.List.{List, _++_}
 use mathlib.Core.Path.{_≡_}
 use Prim.Native.Nat.{ℕ, _+_, _*_, _-_, _^_, _≤_, _<_}
 use lib.ListN.{length, take, drop}
 use Rattle.meaning.specs.Spans.{Span}
 use Rattle.rules.specs.Limits.{rowLimit}
-use Rattle.rules.specs.Rows.{numbersAt}
-use Rattle.rules.specs.Stretches.{spansOf, width, offset}
-use Rattle.rules.specs.Refusals.{refused}
-use Rattle.rules.specs.Table.{Said, passed, refusedBy}
-use Rattle.rules.specs.declared.refusal.Refusal.the-variants as Refusal
+use Rattle.rules.specs.Rows.{ruleOf}
+use Rattle.rules.specs.Stretches.{spansOf, width}
+use Rattle.refusals.specs.Refusals.{refused}
+use Rattle.rules.specs.Table.{CheckReply, passed, refusedBy}
+use Rattle.rules.specs.declared.numbers.Numbers.{Numbers}
+use Rattle.refusals.specs.declared.refusal.Refusal.the-variants as Refusal
+use Rattle.spans.specs.declared.stretch.Held.{Held}
 use Rattle.spans.specs.declared.stretch.Updated.{Updated}
-use Rattle.spans.specs.Layout.{packed, Packed}
+use Rattle.spans.specs.Layout.{packed, spansHeld, Packed}
 use Rattle.spans.specs.Stretch.{covered}
 use Rattle.monitor.specs.declared.record.Record.{Record}
+use Rattle.monitor.specs.declared.answer.Answer.{Answer}
+use Rattle.monitor.specs.declared.answer.Answer.the-variants as Answer
+use Rattle.monitor.specs.declared.event.Arrival.{Arrival}
 use Rattle.monitor.specs.declared.event.Judgement.{Judgement}
-use Rattle.monitor.specs.Record.{timeLimit, heldAt, stretchAt}
+use Rattle.times.specs.Times.{timeLimit}
+use Rattle.monitor.specs.Record.{byteOf}
 use Rattle.monitor.specs.Soundness.{sound?}
 use Rattle.monitor.specs.Ready.{readyOf}
-use Rattle.monitor.specs.Event.{Moment, spansAfter, truthOf, truthsAfter, countsAfter, storeAfter}
+use Rattle.monitor.specs.Event.{Moment, spansBy, truthBy, truthsAfter, countsAfter, storeAfter}
+use Rattle.monitor.specs.Step.{Outcome, said}
 
 -- 7, "record not sound", after refusals 1 to 4.
-abbrev pub withSound : Bool → Said → Said
-withSound sound (passed rows need) = cond sound (passed rows need) (refusedBy (refused Refusal.Record))
+abbrev pub withSound : Bool → CheckReply → CheckReply
+withSound sound (passed rows need) = cond sound (passed rows need) (refusedBy (refused Refusal.Unsound))
 withSound sound (refusedBy fault) = refusedBy fault
 
-unfoldable pub fitOf : List ℕ → List ℕ → Record → Said
+unfoldable pub fitOf : List ℕ → List ℕ → Record → CheckReply
 fitOf table store found = withSound (sound? table store found) (readyOf table (length store))
 
--- An event, by its parts.
+-- A record, and an event, by their parts.
+abbrev pub recordOf : (seen time rows : ℕ) (truths counts : List ℕ) → Record
+recordOf seen time rows truths counts = record { seen = seen; time = time; rows = rows; truths = truths; counts = counts }
+
 abbrev pub moment : (table store : List ℕ) → Record → (time mask : ℕ) → Moment
 moment table store found time mask = record { table = table; store = store; found = found; time = time; mask = mask }
 
@@ -48,29 +58,41 @@ pub record UpdatedIn (from end : ℕ) (store after : List ℕ) (updated : Update
   pub told : updated .covered ≡ covered time S
 
 -- The arrays and the store after the rows below n.
-pub record AfterRows (m : Moment) (n : ℕ) (truths : List Bool) (counts store : List ℕ) : Type 0 where
+pub record AfterRows (m : Moment) (n : ℕ) (truths counts store : List ℕ) : Type 0 where
   pub truths-are : truths ≡ truthsAfter m n
   pub counts-are : counts ≡ countsAfter m n
   pub store-is : store ≡ storeAfter m n
 
--- A row can be judged: it and the rows that it names have their place in the arrays, its stretch begins at a word and lies within the store, its
--- spans are laid out there, and those after the event have room.
-pub record RowReady (m : Moment) (row from : ℕ) (truths : List Bool) : Type 0 where
-  pub listed : row < rowLimit
-  pub x-listed : numbersAt (m .table) row .x < rowLimit
-  pub y-listed : numbersAt (m .table) row .y < rowLimit
-  pub early : m .time ≤ timeLimit
-  pub place : from ≡ offset (m .table) row
-  pub inside : from + width (numbersAt (m .table) row) ≤ length (m .store)
-  pub laid : Packed (stretchAt (m .table) (m .store) row) (heldAt (m .found) row)
-  pub enough : 2 * length (spansAfter m row truths) ≤ width (numbersAt (m .table) row)
-  pub few : spansOf (numbersAt (m .table) row) < 2 ^ 32
+-- The spans of a row whose stretch begins at a word, after the event.
+abbrev pub spansAfterIn : (store : List ℕ) (from : ℕ) → Numbers → Held → Arrival → (truths : List ℕ) → List Span
+spansAfterIn store from n held e truths = spansBy (e .time) truths (spansHeld (stretchIn from (from + width n) store) held) n (ruleOf n)
+
+-- A row can be judged: the rows that it names have their place in the arrays, its stretch lies within the store, its spans are laid out there, and
+-- those after the event have room.
+pub record RowReady (store : List ℕ) (from : ℕ) (n : Numbers) (held : Held) (e : Arrival) (truths : List ℕ) : Type 0 where
+  pub x-listed : n .x < rowLimit
+  pub y-listed : n .y < rowLimit
+  pub early : e .time ≤ timeLimit
+  pub inside : from + width n ≤ length store
+  pub laid : Packed (stretchIn from (from + width n) store) held
+  pub enough : 2 * length (spansAfterIn store from n held e truths) ≤ width n
+  pub few : spansOf n < 2 ^ 32
 
 -- The row was judged: its truth, its spans, where its stretch ends, and the store with its words written there.
-pub record RowJudged (m : Moment) (row from : ℕ) (truths : List Bool) (after : List ℕ) (judged : Judgement) : Type 0 where
-  pub truth : judged .truth ≡ truthOf m row truths
-  pub count : judged .count ≡ length (spansAfter m row truths)
-  pub end : judged .end ≡ from + width (numbersAt (m .table) row)
-  pub written :
-      after
-      ≡ withStretch from (from + width (numbersAt (m .table) row)) (m .store) (packed (width (numbersAt (m .table) row)) (spansAfter m row truths))
+pub record RowJudged (store : List ℕ) (from : ℕ) (n : Numbers) (held : Held) (e : Arrival) (found truths after : List ℕ) (judged : Judgement) : Type 0 where
+  pub truth : judged .truth ≡ truthBy e found truths (spansAfterIn store from n held e truths) n (ruleOf n)
+  pub count : judged .count ≡ length (spansAfterIn store from n held e truths)
+  pub end : judged .end ≡ from + width n
+  pub written : after ≡ withStretch from (from + width n) store (packed (width n) (spansAfterIn store from n held e truths))
+
+-- After a call on lent arrays: the answer, and what stands in the arrays and in the store, are the outcome's.
+pub record LeftIn (o : Outcome) (answer : Answer) (truths counts store : List ℕ) : Type 0 where
+  pub replied : said answer ≡ o .reply
+  pub truths-are : truths ≡ o .left .truths
+  pub counts-are : counts ≡ o .left .counts
+  pub store-is : store ≡ o .store
+
+-- The record that is given beside an answer.
+abbrev pub recordLeft : Answer → Arrival → (rows : ℕ) (truths counts : List ℕ) → Record
+recordLeft (Answer.Verdict holds) e rows truths counts = recordOf (byteOf true) (e .time) rows truths counts
+recordLeft (Answer.Refused fault) e rows truths counts = recordOf (e .seen) (e .last) rows truths counts

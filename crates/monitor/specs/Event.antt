@@ -5,15 +5,17 @@ use Prim.Native.Nat.{ℕ, zero, suc}
 use lib.ListN.{length, drop, set}
 use Rattle.meaning.specs.Interval.{endOf}
 use Rattle.meaning.specs.Computed.{within?, bitSet?}
-use Rattle.meaning.specs.Spans.{Span, reach, update}
-use Rattle.rules.specs.Kinds.{truth, bit, negation, both, either, previous, Rule, plain, stretch}
-use Rattle.rules.specs.Rows.{rowsOf, numbersAt, ruleOf, named}
+use Rattle.meaning.specs.Spans.{Span, reachedFrom, update}
+use Rattle.rules.specs.Kinds.{Rule, plain, stretch}
+use Rattle.rules.specs.declared.plain.Plain.the-variants as Plain
+use Rattle.rules.specs.Rows.{rowsOf, numbersAt, ruleOf, keptBy, taken, fedBy}
 use Rattle.rules.specs.Stretches.{width, offset}
 use Rattle.rules.specs.declared.numbers.Numbers.{Numbers}
 use Rattle.spans.specs.Layout.{packed}
 use Rattle.spans.specs.Stretch.{covered}
 use Rattle.monitor.specs.declared.record.Record.{Record}
-use Rattle.monitor.specs.Record.{truthAt, spansFound}
+use Rattle.monitor.specs.declared.event.Arrival.{Arrival}
+use Rattle.monitor.specs.Record.{byteOf, isTrue, truthAt, eventTime, spansFound}
 
 -- An event, and what it meets: the table, the store and the record as they were found.
 pub record Moment : Type 0 where
@@ -23,37 +25,42 @@ pub record Moment : Type 0 where
   pub time : ℕ
   pub mask : ℕ
 
+-- The event beside what the record tells of the one before it.
+abbrev pub arrivalOf : Moment → Arrival
+arrivalOf m = record { time = m .time; mask = m .mask; seen = m .found .seen; last = eventTime (m .found) }
+
 -- "a since row's spans are clipped at t and ended ones dropped, then all dropped if x is now false, then t+a to t+b is joined in if y is true";
--- x and y by the truths of the lower rows at this event. A row without a stretch holds no spans.
-abbrev pub spansBy : Moment → List Bool → List Span → Numbers → Rule → List Span
-spansBy m truths before row (plain says) = []
-spansBy m truths before row (stretch keep feed) =
-    update (truthAt truths (named keep row)) (truthAt truths (named feed row)) (m .time)
-    (reach (m .time) (row .a) (endOf (row .b))) before
+-- what keeps and what feeds, by the kind's columns and the truths of the lower rows at this event. A row without a stretch holds no spans.
+abbrev pub spansBy : (time : ℕ) (truths : List ℕ) → List Span → Numbers → Rule → List Span
+spansBy time truths before row (plain says) = []
+spansBy time truths before row (stretch columns) =
+    update (keptBy true (truthAt truths) row (columns .keep)) (fedBy not (truthAt truths) row columns) time
+    (reachedFrom time (row .a) (endOf (row .b))) before
 
-unfoldable pub spansAfter : Moment → ℕ → List Bool → List Span
+unfoldable pub spansAfter : Moment → ℕ → List ℕ → List Span
 spansAfter m row truths =
-    spansBy m truths (spansFound (m .table) (m .store) (m .found) row) (numbersAt (m .table) row) (ruleOf (numbersAt (m .table) row))
+    spansBy (m .time) truths (spansFound (m .table) (m .store) (m .found) row) (numbersAt (m .table) row) (ruleOf (numbersAt (m .table) row))
 
--- The meaning of a row by its kind, from the truths of the lower rows at this event. "kind 5 uses the truth and time found (false if no event was
--- seen)"; "The row is true at t exactly when t lies in a span."
-abbrev pub truthBy : Moment → List Bool → List Span → Numbers → Rule → Bool
-truthBy m truths after row (plain truth) = true
-truthBy m truths after row (plain bit) = bitSet? (row .x) (m .mask)
-truthBy m truths after row (plain negation) = not (truthAt truths (row .x))
-truthBy m truths after row (plain both) = truthAt truths (row .x) && truthAt truths (row .y)
-truthBy m truths after row (plain either) = truthAt truths (row .x) || truthAt truths (row .y)
-truthBy m truths after row (plain previous) =
-    m .found .seen && truthAt (m .found .truths) (row .x) && within? (row .a) (endOf (row .b)) (m .found .time) (m .time)
-truthBy m truths after row (stretch keep feed) = covered (m .time) after
+-- The meaning of a row by its kind, from the truths found and those of the lower rows at this event. "kind 5 uses the truth and time found (false if
+-- no event was seen)"; "The row is true at t exactly when t lies in a span", or in none, by the kind's column.
+abbrev pub truthBy : Arrival → (found truths : List ℕ) → List Span → Numbers → Rule → Bool
+truthBy e found truths after row (plain Plain.Truth) = true
+truthBy e found truths after row (plain Plain.Bit) = bitSet? (row .x) (e .mask)
+truthBy e found truths after row (plain Plain.Negation) = not (truthAt truths (row .x))
+truthBy e found truths after row (plain Plain.Both) = truthAt truths (row .x) && truthAt truths (row .y)
+truthBy e found truths after row (plain Plain.Either) = truthAt truths (row .x) || truthAt truths (row .y)
+truthBy e found truths after row (plain Plain.Previous) =
+    isTrue (e .seen) && truthAt found (row .x) && within? (row .a) (endOf (row .b)) (e .last) (e .time)
+truthBy e found truths after row (stretch columns) = taken not (columns .inside) (covered (e .time) after)
 
-unfoldable pub truthOf : Moment → ℕ → List Bool → Bool
-truthOf m row truths = truthBy m truths (spansAfter m row truths) (numbersAt (m .table) row) (ruleOf (numbersAt (m .table) row))
+unfoldable pub truthOf : Moment → ℕ → List ℕ → Bool
+truthOf m row truths =
+    truthBy (arrivalOf m) (m .found .truths) truths (spansAfter m row truths) (numbersAt (m .table) row) (ruleOf (numbersAt (m .table) row))
 
 -- "rows rising": the truths after the rows below n, the others as found.
-unfoldable pub truthsAfter : Moment → ℕ → List Bool
+unfoldable pub truthsAfter : Moment → ℕ → List ℕ
 truthsAfter m zero = m .found .truths
-truthsAfter m (suc n) = set (truthsAfter m n) n (truthOf m n (truthsAfter m n))
+truthsAfter m (suc n) = set (truthsAfter m n) n (byteOf (truthOf m n (truthsAfter m n)))
 
 -- The spans of a row after the event; the span counts, and the words, after the rows below n, the others as found.
 abbrev pub spansNow : Moment → ℕ → List Span
@@ -74,7 +81,7 @@ storeAfter m n = wordsDone m n ++ drop (offset (m .table) n) (m .store)
 unfoldable pub recordAfter : Moment → Record
 recordAfter m =
     record {
-      seen = true;
+      seen = byteOf true;
       time = m .time;
       rows = m .found .rows;
       truths = truthsAfter m (rowsOf (m .table));

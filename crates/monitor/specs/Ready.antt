@@ -4,19 +4,19 @@ use mathlib.Core.List.{List}
 use mathlib.Core.Option.{Option, none, some}
 use Prim.Native.Nat.{ℕ}
 use lib.Dec.{leb}
-use Rattle.rules.specs.Refusals.{Refused, refused}
-use Rattle.rules.specs.Table.{Said, passed, refusedBy, checkOf}
-use Rattle.rules.specs.declared.refusal.Refusal.the-variants.{Store}
+use Rattle.refusals.specs.Refusals.{Refused, refused}
+use Rattle.rules.specs.Table.{CheckReply, passed, refusedBy, checkOf}
+use Rattle.refusals.specs.declared.refusal.Refusal.the-variants.{Store}
 
 -- 4: "store shorter than the need", after the table's own refusals.
-abbrev pub withRoom : ℕ → Said → Said
+abbrev pub withRoom : ℕ → CheckReply → CheckReply
 withRoom size (passed rows need) = cond (leb need size) (passed rows need) (refusedBy (refused Store))
 withRoom size (refusedBy fault) = refusedBy fault
 
 -- For a table and a store of a size: the rows and the need, or a refusal 1 to 4.
-unfoldable pub readyOf : List ℕ → ℕ → Said
+unfoldable pub readyOf : List ℕ → ℕ → CheckReply
 readyOf table size = withRoom size (checkOf table)
 
-abbrev pub refusalIn : Said → Option Refused
+abbrev pub refusalIn : CheckReply → Option Refused
 refusalIn (passed rows need) = none
 refusalIn (refusedBy fault) = some fault

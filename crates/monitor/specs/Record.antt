@@ -1,7 +1,8 @@
 -- The record, and the part of the store that belongs to each row (document 01, "Spans, store and record").
-use mathlib.Core.Bool.{Bool, false}
+use mathlib.Core.Bool.{Bool, cond}
 use mathlib.Core.List.{List}
 use Prim.Native.Nat.{ℕ}
+use lib.Dec.{eqb}
 use lib.ListN.{getD, take, drop, replicate}
 use Rattle.meaning.specs.Spans.{Span}
 use Rattle.rules.specs.Limits.{rowLimit}
@@ -11,13 +12,27 @@ use Rattle.spans.specs.declared.stretch.Held.{Held}
 use Rattle.spans.specs.Layout.{spansHeld}
 use Rattle.monitor.specs.declared.record.Record.{Record}
 
--- "281,474,976,710,655": no accepted time is over this.
-abbrev pub timeLimit : ℕ
-timeLimit = 281_474_976_710_655
+-- A truth as a byte, 1 for true and 0 for false, and the truth that a byte tells.
+abbrev pub byteOf : Bool → ℕ
+byteOf truth = cond truth 1 0
 
--- A row's truth in a list of truths, and what is held of its spans.
-abbrev pub truthAt : List Bool → ℕ → Bool
-truthAt truths row = getD truths row false
+abbrev pub isTrue : ℕ → Bool
+isTrue byte = eqb byte 1
+
+-- "The record holds: whether an event was seen, .., each row's truth at it, and each row's span count."
+abbrev pub wasSeen : Record → Bool
+wasSeen found = isTrue (found .seen)
+
+abbrev pub truthAt : List ℕ → ℕ → Bool
+truthAt truths row = isTrue (getD truths row 0)
+
+-- The record's time by its two meanings, which are one time: the clock, before which nothing is accepted any more and from which spans are held, and
+-- the time of the last event, from which ages are counted.
+abbrev pub clockOf : Record → ℕ
+clockOf found = found .time
+
+abbrev pub eventTime : Record → ℕ
+eventTime found = found .time
 
 abbrev pub heldAt : Record → ℕ → Held
 heldAt found row = record { count = getD (found .counts) row 0 }
@@ -31,4 +46,4 @@ spansFound table store found row = spansHeld (stretchAt table store row) (heldAt
 
 -- A record with nothing seen, of so many rows: what a good start gives. With 0 rows it is all zero.
 unfoldable pub nothingSeen : ℕ → Record
-nothingSeen rows = record { seen = false; time = 0; rows = rows; truths = replicate rowLimit false; counts = replicate rowLimit 0 }
+nothingSeen rows = record { seen = 0; time = 0; rows = rows; truths = replicate rowLimit 0; counts = replicate rowLimit 0 }

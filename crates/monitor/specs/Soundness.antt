@@ -1,5 +1,6 @@
--- When record and store are sound for a table (document 01, "A record is sound when all of these hold"), computed in its order.
-use mathlib.Core.Bool.{Bool, true, not, _&&_, _||_}
+-- When record and store are sound for a table (document 01, "A record is sound when all of these hold"), computed row by row. That the test tells
+-- exactly document 01's conditions is `record-told` of the promises.
+use mathlib.Core.Bool.{Bool, true, _&&_, _||_}
 use mathlib.Core.List.{List}
 use Prim.Native.Nat.{ℕ, zero, suc, _+_}
 use lib.Dec.{leb, ltb, eqb}
@@ -10,37 +11,48 @@ use Rattle.rules.specs.Limits.{rowLimit}
 use Rattle.rules.specs.Rows.{rowsOf, numbersAt}
 use Rattle.rules.specs.Stretches.{spansOf}
 use Rattle.rules.specs.declared.numbers.Numbers.{Numbers}
+use Rattle.spans.specs.declared.stretch.Held.{Held}
 use Rattle.spans.specs.StretchSound.{soundStretch?}
 use Rattle.monitor.specs.declared.record.Record.{Record}
-use Rattle.monitor.specs.Record.{timeLimit, truthAt, heldAt, stretchAt}
+use Rattle.times.specs.Times.{timeLimit}
+use Rattle.monitor.specs.Record.{isTrue, wasSeen, clockOf, eventTime, heldAt, stretchAt}
 
 -- Every row below n passes.
 unfoldable pub every : ℕ → (ℕ → Bool) → Bool
 every zero test = true
 every (suc n) test = every n test && test n
 
--- What the record says of one row: "truths past it are false; span counts are 0 except at since rows, and within the row's figure there";
--- "if no event was seen, .. truths and span counts are 0 or false".
-unfoldable pub soundEntry? : List ℕ → Record → ℕ → Bool
-soundEntry? table found row =
-    (ltb row (rowsOf table) || not (truthAt (found .truths) row))
-    && leb (getD (found .counts) row 0) (spansOf (numbersAt table row))
-    && (found .seen || (not (truthAt (found .truths) row) && eqb (getD (found .counts) row 0) 0))
+-- A byte that tells a truth is 0 or 1.
+abbrev pub truthByte? : ℕ → Bool
+truthByte? byte = leb byte 1
 
--- "in each stretch: ..", with t the record's time.
-abbrev pub soundLimits? : List ℕ → Record → ℕ → Numbers → Bool
-soundLimits? words found row numbers =
-    soundStretch? words (heldAt found row) (found .time) (found .time + numbers .a)
-    (found .time +End endOf (numbers .b)) (lengthOf (numbers .a) (endOf (numbers .b)))
+-- What the record says of a row of the table: "span counts are 0 except at since rows, and within the row's figure there"; "if no event was seen,
+-- .. truths and span counts are 0 or false".
+abbrev pub soundEntry? : (seen : Bool) (truth count : ℕ) → Numbers → Bool
+soundEntry? seen truth count numbers = truthByte? truth && leb count (spansOf numbers) && (seen || (eqb truth 0 && eqb count 0))
+
+-- "in each stretch: ..": firsts from the clock on, the latest first and last by the last event's time.
+abbrev pub soundLimits? : List ℕ → Held → (clock event : ℕ) → Numbers → Bool
+soundLimits? words held clock event numbers =
+    soundStretch? words held clock (event + numbers .a) (event +End endOf (numbers .b)) (lengthOf (numbers .a) (endOf (numbers .b)))
 
 unfoldable pub soundRow? : List ℕ → List ℕ → Record → ℕ → Bool
-soundRow? table store found row = soundLimits? (stretchAt table store row) found row (numbersAt table row)
+soundRow? table store found row =
+    soundEntry? (wasSeen found) (getD (found .truths) row 0) (getD (found .counts) row 0) (numbersAt table row)
+    && soundLimits? (stretchAt table store row) (heldAt found row) (clockOf found) (eventTime found) (numbersAt table row)
 
--- "its row count is the table's"; "if no event was seen, time .. 0"; "time is at most 281,474,976,710,655".
+-- Past the table's rows "truths .. are false", and "span counts are 0".
+unfoldable pub zeroPast? : (rows : ℕ) (truths counts : List ℕ) → ℕ → Bool
+zeroPast? rows truths counts row = ltb row rows || (eqb (getD truths row 0) 0 && eqb (getD counts row 0) 0)
+
+-- "if no event was seen, time .. 0"; "time is at most 281,474,976,710,655".
+abbrev pub soundTime? : (seen time : ℕ) → Bool
+soundTime? seen time = truthByte? seen && (isTrue seen || eqb time 0) && leb time timeLimit
+
+-- "its row count is the table's"; then the time, each row of the table, and what stands past them.
 unfoldable pub sound? : List ℕ → List ℕ → Record → Bool
 sound? table store found =
     eqb (found .rows) (rowsOf table)
-    && every rowLimit (soundEntry? table found)
-    && (found .seen || eqb (found .time) 0)
-    && leb (found .time) timeLimit
+    && soundTime? (found .seen) (clockOf found)
     && every (rowsOf table) (soundRow? table store found)
+    && every rowLimit (zeroPast? (rowsOf table) (found .truths) (found .counts))

@@ -4,8 +4,8 @@ use mathlib.Core.List.{List, _++_}
 use mathlib.Core.Option.{Option, none, some}
 use Prim.Native.Nat.{ℕ}
 use lib.ListN.{length, drop, replicate}
-use Rattle.rules.specs.Refusals.{Refused, refused}
-use Rattle.rules.specs.Table.{Said, passed, refusedBy}
+use Rattle.refusals.specs.Refusals.{Refused, refused}
+use Rattle.rules.specs.Table.{CheckReply, passed, refusedBy}
 use Rattle.monitor.specs.declared.record.Record.{Record}
 use Rattle.monitor.specs.declared.answer.StartAnswer.{StartAnswer}
 use Rattle.monitor.specs.declared.answer.StartAnswer.the-variants as StartAnswer
@@ -19,7 +19,7 @@ pub record Beginning : Type 0 where
   pub given : Record
   pub store : List ℕ
 
-abbrev pub begin : List ℕ → Said → Beginning
+abbrev pub begin : List ℕ → CheckReply → Beginning
 begin store (passed rows need) =
     record { refusal = none; given = nothingSeen rows; store = replicate need 0 ++ drop need store }
 begin store (refusedBy fault) = record { refusal = some fault; given = nothingSeen 0; store = store }

@@ -7,16 +7,17 @@ use lib.Dec.{leb}
 use lib.ListN.{length, getD}
 use Rattle.meaning.specs.FrameTime.{frameTime}
 use Rattle.rules.specs.Rows.{rowsOf}
-use Rattle.rules.specs.Refusals.{Refused, refused, _orElse_}
-use Rattle.rules.specs.declared.refusal.Refusal.{Refusal}
-use Rattle.rules.specs.declared.refusal.Refusal.the-variants.{Earlier, Late, Record}
-use Rattle.monitor.specs.declared.record.Record as Kept
+use Rattle.refusals.specs.Refusals.{Refused, refused, _orElse_}
+use Rattle.refusals.specs.declared.refusal.Refusal.{Refusal}
+use Rattle.refusals.specs.declared.refusal.Refusal.the-variants.{Earlier, Late, Unsound}
+use Rattle.monitor.specs.declared.record.Record.{Record}
 use Rattle.monitor.specs.declared.answer.Answer.{Answer}
 use Rattle.monitor.specs.declared.answer.Answer.the-variants as Answer
 use Rattle.monitor.specs.declared.answer.Judged.{Judged}
 use Rattle.monitor.specs.declared.answer.Timed.{Timed}
 use Rattle.monitor.specs.declared.answer.Timed.the-variants as Timed
-use Rattle.monitor.specs.Record.{timeLimit, truthAt}
+use Rattle.times.specs.Times.{timeLimit}
+use Rattle.monitor.specs.Record.{truthAt, clockOf}
 use Rattle.monitor.specs.Soundness.{sound?}
 use Rattle.monitor.specs.Ready.{readyOf, refusalIn}
 use Rattle.monitor.specs.Event.{Moment, storeAfter, recordAfter}
@@ -52,24 +53,24 @@ unless true refusal = none
 unless false refusal = some (refused refusal)
 
 -- "an event uses 1 to 4, then 7, 6, 5": "record not sound", "time over 281,474,976,710,655", "time below the last event's".
-unfoldable pub refusalOf : Setup → List ℕ → Kept.Record → Call → Option Refused
+unfoldable pub refusalOf : Setup → List ℕ → Record → Call → Option Refused
 refusalOf setup store found call =
     refusalIn (readyOf (setup .table) (length store))
-    orElse unless (sound? (setup .table) store found) Record
-    orElse unless (leb (timeOf (found .time) call) timeLimit) Late
-    orElse unless (leb (found .time) (timeOf (found .time) call)) Earlier
+    orElse unless (sound? (setup .table) store found) Unsound
+    orElse unless (leb (timeOf (clockOf found) call) timeLimit) Late
+    orElse unless (leb (clockOf found) (timeOf (clockOf found) call)) Earlier
 
 -- The call as a moment, for the one-event rules.
-abbrev pub momentOf : Setup → List ℕ → Kept.Record → Call → Moment
+abbrev pub momentOf : Setup → List ℕ → Record → Call → Moment
 momentOf setup store found call =
-    record { table = setup .table; store = store; found = found; time = timeOf (found .time) call; mask = maskOf call }
+    record { table = setup .table; store = store; found = found; time = timeOf (clockOf found) call; mask = maskOf call }
 
 -- The store after an accepted call; the record is `recordAfter`.
 abbrev pub storeOf : Moment → List ℕ
 storeOf m = storeAfter m (rowsOf (m .table))
 
 -- "the last is the formula judged".
-abbrev pub verdictOf : Setup → List Bool → Bool
+abbrev pub verdictOf : Setup → List ℕ → Bool
 verdictOf setup truths = truthAt truths (rowsOf (setup .table) - 1)
 
 -- "the answer is either a verdict or a numbered refusal", and the record and the store that stand beside it.
@@ -79,18 +80,18 @@ pub data Reply : Type 0 where
 
 pub record Outcome : Type 0 where
   pub reply : Reply
-  pub left : Kept.Record
+  pub left : Record
   pub store : List ℕ
 
 -- "refusal gives back the record given and leaves the store".
-abbrev pub outcome : Setup → List ℕ → Kept.Record → Moment → Option Refused → Outcome
-outcome setup store found m (some fault) = record { reply = refusal fault; left = found; store = store }
-outcome setup store found m none =
+abbrev pub outcomeBy : Setup → List ℕ → Record → Moment → Option Refused → Outcome
+outcomeBy setup store found m (some fault) = record { reply = refusal fault; left = found; store = store }
+outcomeBy setup store found m none =
     record { reply = verdict (verdictOf setup (recordAfter m .truths)); left = recordAfter m; store = storeOf m }
 
-unfoldable pub stepOf : Setup → List ℕ → Kept.Record → Call → Outcome
+unfoldable pub stepOf : Setup → List ℕ → Record → Call → Outcome
 stepOf setup store found call =
-    outcome setup store found (momentOf setup store found call) (refusalOf setup store found call)
+    outcomeBy setup store found (momentOf setup store found call) (refusalOf setup store found call)
 
 -- What an answer says, with the record beside it and the store at exit.
 abbrev pub said : Answer → Reply

@@ -1,7 +1,7 @@
 // What the monitor's calls answer.
 
 use crate::record::Record;
-use rules::refusal::Refusal;
+use refusals::refusal::Refusal;
 
 // The answer to an event: the verdict, or a refusal with its number and row.
 pub enum Answer {

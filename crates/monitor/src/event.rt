@@ -1,37 +1,50 @@
 // One event, rows rising (document 01, "Spans, store and record"): the core over lent arrays and the lent store. It refuses nothing; whoever
-// calls has checked the table, the store, the record and the time.
+// calls has checked the table, the store, the record and the time. No record goes into it: a row is judged from the few values that it needs.
 
-use crate::reach::last_reached;
-use crate::reach::wide;
-use crate::reach::within;
-use crate::record::Record;
+use crate::reached::last_reached;
+use crate::record::byte_of;
 use crate::record::truth_at;
 use rules::limits::MASK_BITS;
 use rules::limits::ROW_LIMIT;
 use rules::numbers::Numbers;
 use rules::numbers::numbers_at;
+use rules::plain;
+use rules::plain::Plain;
 use rules::stretch;
+use rules::stretch::Feed;
+use rules::stretch::Keep;
 use spans::stretch::Held;
 use spans::stretch::Updated;
 use spans::stretch::update;
-ghost use mathlib.Core.Bool.{false, not, _&&_, _||_};
+use times::interval::within;
+use times::time::wide;
+ghost use mathlib.Core.Bool.{true, false, not, _&&_, _||_};
 ghost use mathlib.Core.List.{List};
 ghost use mathlib.Core.Option.{none};
 ghost use mathlib.Core.Path.{_≡_};
-ghost use Prim.Native.Nat.{ℕ, _≤_, _<_, _*_, _-_, _/_, _%_, _^_};
+ghost use Prim.Native.Nat.{_≤_, _<_, _*_, _-_, _/_, _%_, _^_};
 ghost use lib.Dec.{eqb};
 ghost use lib.ListN.{length};
 ghost use Rattle.meaning.specs.Interval.{endOf};
 ghost use Rattle.meaning.specs.Computed.{within?};
-ghost use Rattle.meaning.specs.Spans.{Span, _to_, reach, update};
+ghost use Rattle.meaning.specs.Spans.{Span, _to_, reachedFrom, update};
 ghost use Rattle.rules.specs.Limits.{rowLimit};
 ghost use Rattle.rules.specs.Kinds.{ownsStretch};
-ghost use Rattle.rules.specs.Rows.{rowsOf, ruleOf};
+ghost use Rattle.rules.specs.Rows.{rowsOf, ruleOf, keptBy, feeder, taken};
 ghost use Rattle.spans.specs.Layout.{endAt, spansHeld, Packed};
-ghost use Rattle.monitor.specs.Record.{timeLimit, truthAt};
+ghost use Rattle.times.specs.Times.{timeLimit};
+ghost use Rattle.monitor.specs.Record.{isTrue, truthAt};
 ghost use Rattle.monitor.specs.Event.{truthBy};
-ghost use Rattle.monitor.specs.Step.{refusalOf, event};
-ghost use Rattle.monitor.specs.Core.{stretchIn, UpdatedIn, moment, AfterRows, RowReady, RowJudged};
+ghost use Rattle.monitor.specs.Step.{setupOf, refusalOf, event};
+ghost use Rattle.monitor.specs.Core.{recordOf, moment, stretchIn, UpdatedIn, AfterRows, RowReady, RowJudged};
+
+// An event, and what the record tells of the one before it: whether it was seen, and its time. Each row's truth at it is lent beside this.
+pub(crate) struct Arrival {
+    pub(crate) time: u64,
+    pub(crate) mask: u32,
+    pub(crate) seen: u8,
+    pub(crate) last: u64,
+}
 
 // What judging a row gives: its truth, how many spans it holds, and where its stretch ends.
 pub(crate) struct Judgement {
@@ -45,64 +58,98 @@ pub(crate) fn judge_rows(
     table: &[u32],
     store: &mut [u64],
     rows: usize,
-    found: Record,
-    time: u64,
-    mask: u32,
-    truths: &mut [bool; ROW_LIMIT],
+    arrival: Arrival,
+    found: &[u8; ROW_LIMIT],
+    truths: &mut [u8; ROW_LIMIT],
     counts: &mut [u32; ROW_LIMIT],
 )
-    requires { ⌜ refusalOf (record { table = now table }) (now store) found (event time mask) ≡ none ⌝ }
-    requires { ⌜ (rows ≡ rowsOf (now table)) × (now truths ≡ found .truths) × (now counts ≡ found .counts) ⌝ }
-    ensures { λ r. ⌜ AfterRows (moment (now (table .entry)) (now (store .entry)) found time mask) rows (now (truths .exit)) (now (counts .exit)) (now (store .exit)) ⌝ }
+    requires { ⌜ refusalOf (setupOf (now table)) (now store) (recordOf (arrival .seen) (arrival .last) rows (now found) (now counts)) (event (arrival .time) (arrival .mask)) ≡ none ⌝ }
+    requires { ⌜ (rows ≡ rowsOf (now table)) × (now truths ≡ now found) ⌝ }
+    ensures { λ r. ⌜ AfterRows (moment (now (table .entry)) (now (store .entry)) (recordOf (arrival .seen) (arrival .last) rows (now (found .entry)) (now (counts .entry))) (arrival .time) (arrival .mask)) rows (now (truths .exit)) (now (counts .exit)) (now (store .exit)) ⌝ }
 {
     let mut from = 0;
     let mut row = 0;
     while row < rows {
-        let judged = judge_row(table, store, row, from, found, time, mask, truths);
-        truths[row] = judged.truth;
+        let numbers = numbers_at(table, row);
+        let count = counts[row];
+        let judged = judge_row(store, from, numbers, count, arrival, found, truths);
+        truths[row] = byte_of(judged.truth);
         counts[row] = judged.count;
         from = judged.end;
         row += 1;
     }
 }
 
-// One row, whose stretch begins at word `from`.
+// One row, whose stretch begins at word `from` and holds so many spans.
 fn judge_row(
-    table: &[u32],
     store: &mut [u64],
-    row: usize,
     from: usize,
-    found: Record,
-    time: u64,
-    mask: u32,
-    truths: &[bool; ROW_LIMIT],
+    numbers: Numbers,
+    count: u32,
+    arrival: Arrival,
+    found: &[u8; ROW_LIMIT],
+    truths: &[u8; ROW_LIMIT],
 ) -> Judgement
-    requires { ⌜ RowReady (moment (now table) (now store) found time mask) row from (now truths) ⌝ }
-    ensures { λ r. ⌜ RowJudged (moment (now (table .entry)) (now (store .entry)) found time mask) row from (now (truths .entry)) (now (store .exit)) r ⌝ }
+    requires { ⌜ RowReady (now store) from numbers (record { count = count }) arrival (now truths) ⌝ }
+    ensures { λ r. ⌜ RowJudged (now (store .entry)) from numbers (record { count = count }) arrival (now (found .entry)) (now (truths .entry)) (now (store .exit)) r ⌝ }
 {
-    let numbers = numbers_at(table, row);
     let end = from + stretch::words(numbers) as usize;
     if stretch::is_owned(numbers) {
-        let keep = truth_at(truths, numbers.x);
-        let feed = truth_at(truths, numbers.y);
-        let count = found.counts[row];
-        let updated = judge_since(store, from, end, count, keep, feed, time, numbers);
+        let columns = stretch::columns(numbers);
+        let keeper = columns.keep;
+        let keep = keeps(keeper, numbers, truths);
+        let feeder = columns.feed;
+        let feed = feeds(feeder, columns.when, numbers, truths);
+        let updated = judge_stretch(store, from, end, count, keep, feed, arrival.time, numbers);
         let held = updated.held;
         return Judgement {
-            truth: updated.covered,
+            truth: taken(columns.inside, updated.covered),
             count: held.count as u32,
             end,
         };
     }
     Judgement {
-        truth: judge_plain(numbers, truths, found, time, mask),
+        truth: judge_plain(numbers, arrival, found, truths),
         count: 0,
         end,
     }
 }
 
-// A since row: its spans are clipped, or all dropped unless x holds, and what the event reaches is joined in if y holds.
-fn judge_since(
+// Whether the spans of a stretch are kept: nothing is asked, or the row that x or y names is true.
+fn keeps(keep: Keep, numbers: Numbers, truths: &[u8; ROW_LIMIT]) -> bool
+    requires { ⌜ (numbers .x < rowLimit) × (numbers .y < rowLimit) ⌝ }
+    ensures { λ r. ⌜ r ≡ keptBy true (truthAt (now (truths .entry))) numbers keep ⌝ }
+{
+    match keep {
+        Keep::Unasked => true,
+        Keep::WhileX => truth_at(truths, numbers.x),
+        Keep::WhileY => truth_at(truths, numbers.y),
+    }
+}
+
+// Whether what the event reaches is joined in: the row that feeds has the truth at which it does.
+fn feeds(feed: Feed, when: bool, numbers: Numbers, truths: &[u8; ROW_LIMIT]) -> bool
+    requires { ⌜ (numbers .x < rowLimit) × (numbers .y < rowLimit) ⌝ }
+    ensures { λ r. ⌜ r ≡ taken not when (truthAt (now (truths .entry)) (feeder feed numbers)) ⌝ }
+{
+    match feed {
+        Feed::FromX => taken(when, truth_at(truths, numbers.x)),
+        Feed::FromY => taken(when, truth_at(truths, numbers.y)),
+    }
+}
+
+// As it is, or its opposite.
+fn taken(straight: bool, value: bool) -> bool
+    ensures { λ r. ⌜ r ≡ taken not straight value ⌝ }
+{
+    if straight {
+        return value;
+    }
+    negation(value)
+}
+
+// A row with a stretch: its spans are clipped, or all dropped unless they are kept, and what the event reaches is joined in if it feeds.
+fn judge_stretch(
     store: &mut [u64],
     from: usize,
     end: usize,
@@ -114,8 +161,8 @@ fn judge_since(
 ) -> Updated
     requires { ⌜ (from ≤ end) × (end ≤ length (now store)) × (time ≤ timeLimit) ⌝ }
     requires { ⌜ Packed (stretchIn from end (now store)) (record { count = count }) ⌝ }
-    requires { ⌜ 2 * length (update keep feed time (reach time (numbers .a) (endOf (numbers .b))) (spansHeld (stretchIn from end (now store)) (record { count = count }))) ≤ end - from ⌝ }
-    ensures { λ r. ⌜ UpdatedIn from end (now (store .entry)) (now (store .exit)) r time (update keep feed time (reach time (numbers .a) (endOf (numbers .b))) (spansHeld (stretchIn from end (now (store .entry))) (record { count = count }))) ⌝ }
+    requires { ⌜ 2 * length (update keep feed time (reachedFrom time (numbers .a) (endOf (numbers .b))) (spansHeld (stretchIn from end (now store)) (record { count = count }))) ≤ end - from ⌝ }
+    ensures { λ r. ⌜ UpdatedIn from end (now (store .entry)) (now (store .exit)) r time (update keep feed time (reachedFrom time (numbers .a) (endOf (numbers .b))) (spansHeld (stretchIn from end (now (store .entry))) (record { count = count }))) ⌝ }
 {
     let held = Held {
         count: count as usize,
@@ -145,25 +192,24 @@ fn update_in(
     update(&mut store[from..end], held, keep, feed, time, first, last)
 }
 
-// A row without a stretch, by its kind.
+// A row without a stretch, by what it says.
 fn judge_plain(
     numbers: Numbers,
-    truths: &[bool; ROW_LIMIT],
-    found: Record,
-    time: u64,
-    mask: u32,
+    arrival: Arrival,
+    found: &[u8; ROW_LIMIT],
+    truths: &[u8; ROW_LIMIT],
 ) -> bool
     requires { ⌜ (ownsStretch (numbers .kind) ≡ false) × (numbers .x < rowLimit) × (numbers .y < rowLimit) ⌝ }
-    ensures { λ r. ⌜ ((table store : List ℕ) (spans : List Span) → r ≡ truthBy (moment table store found time mask) (now (truths .entry)) spans numbers (ruleOf numbers)) ⌝ }
+    ensures { λ r. ⌜ ((spans : List Span) → r ≡ truthBy arrival (now (found .entry)) (now (truths .entry)) spans numbers (ruleOf numbers)) ⌝ }
 {
-    let kind = numbers.kind;
-    match kind {
-        1 => bit_set(mask, numbers.x),
-        2 => negation(truth_at(truths, numbers.x)),
-        3 => both(truth_at(truths, numbers.x), truth_at(truths, numbers.y)),
-        4 => either(truth_at(truths, numbers.x), truth_at(truths, numbers.y)),
-        5 => previous(found, time, numbers),
-        _ => true,
+    let says = plain::says(numbers);
+    match says {
+        Plain::Truth => true,
+        Plain::Bit => bit_set(arrival.mask, numbers.x),
+        Plain::Negation => negation(truth_at(truths, numbers.x)),
+        Plain::Both => both(truth_at(truths, numbers.x), truth_at(truths, numbers.y)),
+        Plain::Either => either(truth_at(truths, numbers.x), truth_at(truths, numbers.y)),
+        Plain::Previous => previous(arrival, found, numbers),
     }
 }
 
@@ -202,14 +248,13 @@ fn either(x: bool, y: bool) -> bool
 }
 
 // Previous x: the truth and the time found; false if no event was seen.
-fn previous(found: Record, time: u64, numbers: Numbers) -> bool
+fn previous(arrival: Arrival, found: &[u8; ROW_LIMIT], numbers: Numbers) -> bool
     requires { ⌜ numbers .x < rowLimit ⌝ }
-    ensures { λ r. ⌜ r ≡ (found .seen && truthAt (found .truths) (numbers .x) && within? (numbers .a) (endOf (numbers .b)) (found .time) time) ⌝ }
+    ensures { λ r. ⌜ r ≡ (isTrue (arrival .seen) && truthAt (now (found .entry)) (numbers .x) && within? (numbers .a) (endOf (numbers .b)) (arrival .last) (arrival .time)) ⌝ }
 {
-    if found.seen {
-        let truths = found.truths;
-        if truth_at(&truths, numbers.x) {
-            return within(numbers.a, numbers.b, found.time, time);
+    if arrival.seen == 1 {
+        if truth_at(found, numbers.x) {
+            return within(numbers.a, numbers.b, arrival.last, arrival.time);
         }
     }
     false

@@ -1,15 +1,15 @@
 // The time of a frame (document 01, "Lines from the board").
 
 use crate::answer::Timed;
-use rules::refusal::Refusal;
+use refusals::refusal::Refusal;
+use times::time::TIME_LIMIT;
+ghost use mathlib.Core.Bool.{cond};
 ghost use mathlib.Core.Path.{_≡_};
 ghost use Prim.Native.Nat.{_≤_};
+ghost use lib.Dec.{leb};
 ghost use Rattle.meaning.specs.FrameTime.{frameTime};
-ghost use Rattle.monitor.specs.Record.{timeLimit};
+ghost use Rattle.times.specs.Times.{timeLimit};
 ghost use Rattle.monitor.specs.Step.{frameTimeOf, saidTime};
-
-// "281,474,976,710,655": no accepted time is over this.
-pub const TIME_LIMIT: u64 = 281_474_976_710_655;
 
 // The board's counter has sixteen bits.
 const TURN: u64 = 65_536;
@@ -25,8 +25,18 @@ pub fn frame_time(last: u64, counter: u16) -> Timed
     Timed::At(time_after(last, counter))
 }
 
+// The time at which a frame is judged; 0 where last is over the limit, since such a record is refused 7 at any time.
+pub(crate) fn time_shown(last: u64, counter: u16) -> u64
+    ensures { λ r. ⌜ r ≡ cond (leb last timeLimit) (frameTime last counter) 0 ⌝ }
+{
+    if TIME_LIMIT < last {
+        return 0;
+    }
+    time_after(last, counter)
+}
+
 // The low sixteen bits of last are subtracted from the counter with wrap.
-pub(crate) fn time_after(last: u64, counter: u16) -> u64
+fn time_after(last: u64, counter: u16) -> u64
     requires { ⌜ last ≤ timeLimit ⌝ }
     ensures { λ r. ⌜ r ≡ frameTime last counter ⌝ }
 {

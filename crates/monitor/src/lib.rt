@@ -3,7 +3,7 @@
 pub mod answer;
 mod event;
 pub mod frame_time;
-mod reach;
+mod reached;
 mod ready;
 pub mod record;
 mod soundness;

@@ -4,16 +4,18 @@ use rules::limits::ROW_LIMIT;
 ghost use mathlib.Core.Path.{_≡_};
 ghost use Prim.Native.Nat.{_<_};
 ghost use Rattle.rules.specs.Limits.{rowLimit};
-ghost use Rattle.monitor.specs.Record.{truthAt, nothingSeen};
+ghost use Rattle.monitor.specs.Record.{byteOf, truthAt, nothingSeen};
 
+// As C has it: a truth is a byte, 1 for true and 0 for false. C memory may hold any byte there; one over 1 is not sound.
+#[repr(C)]
 pub struct Record {
     // Whether an event was seen, and its time.
-    pub seen: bool,
+    pub seen: u8,
     pub time: u64,
     // The table's row count.
     pub rows: u32,
     // Each row's truth at that event, and how many spans its stretch holds.
-    pub truths: [bool; ROW_LIMIT],
+    pub truths: [u8; ROW_LIMIT],
     pub counts: [u32; ROW_LIMIT],
 }
 
@@ -22,18 +24,25 @@ pub fn nothing_seen(rows: u32) -> Record
     ensures { λ r. ⌜ r ≡ nothingSeen rows ⌝ }
 {
     Record {
-        seen: false,
+        seen: 0,
         time: 0,
         rows,
-        truths: [false; ROW_LIMIT],
+        truths: [0; ROW_LIMIT],
         counts: [0; ROW_LIMIT],
     }
 }
 
 // A row's truth.
-pub(crate) fn truth_at(truths: &[bool; ROW_LIMIT], row: u32) -> bool
+pub(crate) fn truth_at(truths: &[u8; ROW_LIMIT], row: u32) -> bool
     requires { ⌜ row < rowLimit ⌝ }
     ensures { λ r. ⌜ r ≡ truthAt (now (truths .entry)) row ⌝ }
 {
-    truths[row as usize]
+    truths[row as usize] == 1
+}
+
+// The byte of a truth.
+pub(crate) fn byte_of(truth: bool) -> u8
+    ensures { λ r. ⌜ r ≡ byteOf truth ⌝ }
+{
+    truth as u8
 }

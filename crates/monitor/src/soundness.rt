@@ -1,107 +1,98 @@
-// Whether record and store are sound for a table that passes (document 01, "A record is sound when all of these hold"), for any values at all.
+// Whether record and store are sound for a table that passes (document 01, "A record is sound when all of these hold"), for any values at all. Each row
+// of the table is decoded once; what stands past them is only held to 0.
 
-use crate::frame_time::TIME_LIMIT;
-use crate::reach::last_reached;
-use crate::reach::length_of;
-use crate::reach::wide;
-use crate::record::Record;
+use crate::reached::last_reached;
 use rules::limits::ROW_LIMIT;
 use rules::numbers::Numbers;
 use rules::numbers::numbers_at;
 use rules::stretch;
 use spans::stretch::Held;
+use spans::stretch::SPAN_WORDS;
 use spans::stretch_sound::sound;
-ghost use mathlib.Core.Bool.{not, _&&_, _||_};
+use times::interval::length_of;
+use times::time::TIME_LIMIT;
+use times::time::wide;
+ghost use mathlib.Core.Bool.{_&&_, _||_};
 ghost use mathlib.Core.Option.{none};
 ghost use mathlib.Core.Path.{_≡_};
-ghost use Prim.Native.Nat.{_≤_, _+_};
+ghost use Prim.Native.Nat.{_≤_};
 ghost use lib.Dec.{eqb, leb};
 ghost use lib.ListN.{length};
-ghost use Rattle.meaning.specs.Interval.{endOf, _+End_};
-ghost use Rattle.meaning.specs.Sound.{lengthOf};
 ghost use Rattle.rules.specs.Limits.{rowLimit};
 ghost use Rattle.rules.specs.Rows.{rowsOf};
-ghost use Rattle.spans.specs.StretchSound.{soundStretch?};
-ghost use Rattle.monitor.specs.Record.{timeLimit};
-ghost use Rattle.monitor.specs.Soundness.{every, soundEntry?, soundRow?, sound?};
+ghost use Rattle.rules.specs.Stretches.{spansOf, width};
+ghost use Rattle.times.specs.Times.{timeLimit};
+ghost use Rattle.monitor.specs.Core.{recordOf};
+ghost use Rattle.monitor.specs.Soundness.{every, truthByte?, soundEntry?, soundLimits?, soundRow?, zeroPast?, soundTime?, sound?};
 ghost use Rattle.monitor.specs.Ready.{readyOf, refusalIn};
 
-// The row count, what the record says of each row, its time, and each stretch.
-pub(crate) fn sound_record(table: &[u32], store: &[u64], rows: usize, found: Record) -> bool
+// The row count, the time, each row of the table, and what stands past them.
+pub(crate) fn sound_record(
+    table: &[u32],
+    store: &[u64],
+    rows: usize,
+    seen: u8,
+    time: u64,
+    count: u32,
+    truths: &[u8; ROW_LIMIT],
+    counts: &[u32; ROW_LIMIT],
+) -> bool
     requires { ⌜ refusalIn (readyOf (now table) (length (now store))) ≡ none ⌝ }
     requires { ⌜ rows ≡ rowsOf (now table) ⌝ }
-    ensures { λ r. ⌜ r ≡ sound? (now (table .entry)) (now (store .entry)) found ⌝ }
+    ensures { λ r. ⌜ r ≡ sound? (now (table .entry)) (now (store .entry)) (recordOf seen time count (now (truths .entry)) (now (counts .entry))) ⌝ }
 {
-    if found.rows as usize != rows {
+    if count as usize != rows {
         return false;
     }
-    if sound_entries(table, rows, found) {
-        if sound_time(found.seen, found.time) {
-            return sound_stretches(table, store, rows, found);
+    if sound_time(seen, time) {
+        if sound_rows(table, store, rows, seen, time, truths, counts) {
+            return zero_past(rows, truths, counts);
         }
     }
     false
 }
 
-// What the record says of each row, those past the table's too.
-fn sound_entries(table: &[u32], rows: usize, found: Record) -> bool
-    requires { ⌜ rows ≡ rowsOf (now table) ⌝ }
-    ensures { λ r. ⌜ r ≡ every rowLimit (soundEntry? (now (table .entry)) found) ⌝ }
+fn sound_time(seen: u8, time: u64) -> bool
+    ensures { λ r. ⌜ r ≡ soundTime? seen time ⌝ }
 {
-    let mut row = 0;
-    while row < ROW_LIMIT {
-        let spans = stretch::spans(numbers_at(table, row));
-        let truth = found.truths[row];
-        let count = found.counts[row];
-        if sound_entry(row < rows, spans, found.seen, truth, count) {
-            row += 1;
-        } else {
-            return false;
-        }
-    }
-    true
-}
-
-// One row's truth and span count: false past the table, within the figure, and false and 0 if no event was seen.
-fn sound_entry(inside: bool, spans: u64, seen: bool, truth: bool, count: u32) -> bool
-    ensures { λ r. ⌜ r ≡ ((inside || not truth) && leb count spans && (seen || (not truth && eqb count 0))) ⌝ }
-{
-    if spans < wide(count) {
+    if 1 < seen {
         return false;
     }
-    if truth {
-        if inside {
-            return seen;
-        }
-        return false;
-    }
-    if seen {
-        return true;
-    }
-    count == 0
-}
-
-fn sound_time(seen: bool, time: u64) -> bool
-    ensures { λ r. ⌜ r ≡ ((seen || eqb time 0) && leb time timeLimit) ⌝ }
-{
-    if seen {
+    if seen == 1 {
         return time <= TIME_LIMIT;
     }
     time == 0
 }
 
-// Each row's stretch, one after the other.
-fn sound_stretches(table: &[u32], store: &[u64], rows: usize, found: Record) -> bool
+// Each row of the table, their stretches one after the other.
+fn sound_rows(
+    table: &[u32],
+    store: &[u64],
+    rows: usize,
+    seen: u8,
+    time: u64,
+    truths: &[u8; ROW_LIMIT],
+    counts: &[u32; ROW_LIMIT],
+) -> bool
     requires { ⌜ refusalIn (readyOf (now table) (length (now store))) ≡ none ⌝ }
-    requires { ⌜ (rows ≡ rowsOf (now table)) × (found .time ≤ timeLimit) ⌝ }
-    ensures { λ r. ⌜ r ≡ every rows (soundRow? (now (table .entry)) (now (store .entry)) found) ⌝ }
+    requires { ⌜ (rows ≡ rowsOf (now table)) × (time ≤ timeLimit) ⌝ }
+    ensures { λ r. ⌜ r ≡ every rows (soundRow? (now (table .entry)) (now (store .entry)) (recordOf seen time rows (now (truths .entry)) (now (counts .entry)))) ⌝ }
 {
     let mut from = 0;
     let mut row = 0;
     while row < rows {
         let numbers = numbers_at(table, row);
-        let end = from + stretch::words(numbers) as usize;
-        if sound_stretch(&store[from..end], found.counts[row], found.time, numbers) {
+        let spans = stretch::spans(numbers);
+        let end = from + SPAN_WORDS * spans as usize;
+        if sound_row(
+            &store[from..end],
+            numbers,
+            spans,
+            seen == 1,
+            time,
+            truths[row],
+            counts[row],
+        ) {
             from = end;
             row += 1;
         } else {
@@ -111,10 +102,51 @@ fn sound_stretches(table: &[u32], store: &[u64], rows: usize, found: Record) -> 
     true
 }
 
+// One row: what the record says of it, and its stretch, which has no words where the row needs no spans.
+fn sound_row(
+    words: &[u64],
+    numbers: Numbers,
+    spans: u64,
+    seen: bool,
+    time: u64,
+    truth: u8,
+    count: u32,
+) -> bool
+    requires { ⌜ (spans ≡ spansOf numbers) × (length (now words) ≡ width numbers) × (time ≤ timeLimit) ⌝ }
+    ensures { λ r. ⌜ r ≡ (soundEntry? seen truth count numbers && soundLimits? (now (words .entry)) (record { count = count }) time time numbers) ⌝ }
+{
+    if sound_entry(spans, seen, truth, count) {
+        if spans == 0 {
+            return true;
+        }
+        return sound_stretch(words, count, time, numbers);
+    }
+    false
+}
+
+// A row's truth and span count: a byte 0 or 1, within the figure, and false and 0 if no event was seen.
+fn sound_entry(spans: u64, seen: bool, truth: u8, count: u32) -> bool
+    ensures { λ r. ⌜ r ≡ (truthByte? truth && leb count spans && (seen || (eqb truth 0 && eqb count 0))) ⌝ }
+{
+    if 1 < truth {
+        return false;
+    }
+    if spans < wide(count) {
+        return false;
+    }
+    if seen {
+        return true;
+    }
+    if truth == 0 {
+        return count == 0;
+    }
+    false
+}
+
 // One stretch, by the limits of its row.
 fn sound_stretch(words: &[u64], count: u32, time: u64, numbers: Numbers) -> bool
     requires { ⌜ time ≤ timeLimit ⌝ }
-    ensures { λ r. ⌜ r ≡ soundStretch? (now (words .entry)) (record { count = count }) time (time + numbers .a) (time +End endOf (numbers .b)) (lengthOf (numbers .a) (endOf (numbers .b))) ⌝ }
+    ensures { λ r. ⌜ r ≡ soundLimits? (now (words .entry)) (record { count = count }) time time numbers ⌝ }
 {
     let held = Held {
         count: count as usize,
@@ -129,4 +161,22 @@ fn sound_stretch(words: &[u64], count: u32, time: u64, numbers: Numbers) -> bool
         last,
         length_of(numbers.a, numbers.b),
     )
+}
+
+// Past the table's rows every truth is false and every span count 0.
+fn zero_past(rows: usize, truths: &[u8; ROW_LIMIT], counts: &[u32; ROW_LIMIT]) -> bool
+    requires { ⌜ rows ≤ rowLimit ⌝ }
+    ensures { λ r. ⌜ r ≡ every rowLimit (zeroPast? rows (now (truths .entry)) (now (counts .entry))) ⌝ }
+{
+    let mut row = rows;
+    while row < ROW_LIMIT {
+        if truths[row] != 0 {
+            return false;
+        }
+        if counts[row] != 0 {
+            return false;
+        }
+        row += 1;
+    }
+    true
 }

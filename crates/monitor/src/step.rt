@@ -1,132 +1,199 @@
-// One call, an event or a frame, the record handed in and back. Everything is checked before anything is written.
+// One call, an event or a frame, the record handed in and back. Everything is checked before anything is written. The truths and counts are taken out of
+// the record once and lent on, so that no record is copied below a call.
 
 use crate::answer::Answer;
 use crate::answer::Judged;
+use crate::event::Arrival;
 use crate::event::judge_rows;
-use crate::frame_time::TIME_LIMIT;
-use crate::frame_time::time_after;
+use crate::frame_time::time_shown;
 use crate::ready::ready;
 use crate::record::Record;
 use crate::soundness::sound_record;
-use rules::refusal::Refusal;
+use refusals::refusal::Refusal;
+use rules::limits::ROW_LIMIT;
 use rules::table::Checked;
+use times::time::TIME_LIMIT;
 ghost use mathlib.Core.Bool.{true};
 ghost use mathlib.Core.Option.{none};
 ghost use mathlib.Core.Path.{_≡_};
 ghost use lib.ListN.{length};
 ghost use Rattle.rules.specs.Rows.{rowsOf};
-ghost use Rattle.rules.specs.Table.{said};
-ghost use Rattle.monitor.specs.Core.{fitOf};
+ghost use Rattle.rules.specs.Table.{checkReply};
+ghost use Rattle.monitor.specs.Core.{recordOf, fitOf, LeftIn, recordLeft};
 ghost use Rattle.monitor.specs.Soundness.{sound?};
 ghost use Rattle.monitor.specs.Ready.{readyOf, refusalIn};
-ghost use Rattle.monitor.specs.Step.{event, frame, refusalOf, stepOf, saidStep};
+ghost use Rattle.monitor.specs.Step.{setupOf, event, frame, refusalOf, stepOf, saidStep};
 
 // The verdict on an event, or a refusal 1 to 4, 7, 6 or 5, with the record after it. No word past the need is written.
 pub fn event(table: &[u32], store: &mut [u64], found: Record, time: u64, mask: u32) -> Judged
-    ensures { λ r. ⌜ saidStep r (now (store .exit)) ≡ stepOf (record { table = now (table .entry) }) (now (store .entry)) found (event time mask) ⌝ }
+    ensures { λ r. ⌜ saidStep r (now (store .exit)) ≡ stepOf (setupOf (now (table .entry))) (now (store .entry)) found (event time mask) ⌝ }
 {
-    let checked = fit(table, store, found);
-    match checked {
-        Checked::Refused(refusal) => refuse(refusal, found),
-        Checked::Passed { rows, need: _ } => judge(table, store, rows as usize, found, time, mask),
-    }
+    let arrival = Arrival {
+        time,
+        mask,
+        seen: found.seen,
+        last: found.time,
+    };
+    let mut truths = found.truths;
+    let mut counts = found.counts;
+    let rows = found.rows;
+    let answer = judge(table, store, arrival, rows, &mut truths, &mut counts);
+    give(answer, arrival, rows, truths, counts)
 }
 
 // The same for a frame, at the time that its counter shows. A refused frame does not move the time.
 pub fn frame(table: &[u32], store: &mut [u64], found: Record, counter: u16, mask: u32) -> Judged
-    ensures { λ r. ⌜ saidStep r (now (store .exit)) ≡ stepOf (record { table = now (table .entry) }) (now (store .entry)) found (frame counter mask) ⌝ }
+    ensures { λ r. ⌜ saidStep r (now (store .exit)) ≡ stepOf (setupOf (now (table .entry))) (now (store .entry)) found (frame counter mask) ⌝ }
 {
-    let checked = fit(table, store, found);
+    let arrival = Arrival {
+        time: time_shown(found.time, counter),
+        mask,
+        seen: found.seen,
+        last: found.time,
+    };
+    let mut truths = found.truths;
+    let mut counts = found.counts;
+    let rows = found.rows;
+    let answer = judge(table, store, arrival, rows, &mut truths, &mut counts);
+    give(answer, arrival, rows, truths, counts)
+}
+
+// Refusals 1 to 4 and 7, then what a sound record is answered.
+fn judge(
+    table: &[u32],
+    store: &mut [u64],
+    arrival: Arrival,
+    count: u32,
+    truths: &mut [u8; ROW_LIMIT],
+    counts: &mut [u32; ROW_LIMIT],
+) -> Answer
+    ensures { λ r. ⌜ LeftIn (stepOf (setupOf (now (table .entry))) (now (store .entry)) (recordOf (arrival .seen) (arrival .last) count (now (truths .entry)) (now (counts .entry))) (event (arrival .time) (arrival .mask))) r (now (truths .exit)) (now (counts .exit)) (now (store .exit)) ⌝ }
+{
+    let checked = fit(
+        table,
+        store,
+        arrival.seen,
+        arrival.last,
+        count,
+        truths,
+        counts,
+    );
     match checked {
-        Checked::Refused(refusal) => refuse(refusal, found),
-        Checked::Passed { rows, need: _ } => {
-            let time = time_after(found.time, counter);
-            judge(table, store, rows as usize, found, time, mask)
-        }
+        Checked::Refused(refusal) => Answer::Refused(refusal),
+        Checked::Passed { rows, need: _ } => judge_sound(
+            table,
+            store,
+            rows as usize,
+            arrival,
+            truths,
+            counts,
+        ),
     }
 }
 
 // Refusals 1 to 4, then 7.
-fn fit(table: &[u32], store: &[u64], found: Record) -> Checked
-    ensures { λ r. ⌜ said r ≡ fitOf (now (table .entry)) (now (store .entry)) found ⌝ }
+fn fit(
+    table: &[u32],
+    store: &[u64],
+    seen: u8,
+    time: u64,
+    count: u32,
+    truths: &[u8; ROW_LIMIT],
+    counts: &[u32; ROW_LIMIT],
+) -> Checked
+    ensures { λ r. ⌜ checkReply r ≡ fitOf (now (table .entry)) (now (store .entry)) (recordOf seen time count (now (truths .entry)) (now (counts .entry))) ⌝ }
 {
     let checked = ready(table, store.len());
     match checked {
         Checked::Refused(refusal) => Checked::Refused(refusal),
         Checked::Passed { rows, need } => {
-            if sound_record(table, store, rows as usize, found) {
+            if sound_record(
+                table,
+                store,
+                rows as usize,
+                seen,
+                time,
+                count,
+                truths,
+                counts,
+            ) {
                 return Checked::Passed { rows, need };
             }
-            Checked::Refused(Refusal::Record)
+            Checked::Refused(Refusal::Unsound)
         }
     }
 }
 
 // Of a sound record: 6 and 5, then the rows.
-fn judge(
+fn judge_sound(
     table: &[u32],
     store: &mut [u64],
     rows: usize,
-    found: Record,
-    time: u64,
-    mask: u32,
-) -> Judged
+    arrival: Arrival,
+    truths: &mut [u8; ROW_LIMIT],
+    counts: &mut [u32; ROW_LIMIT],
+) -> Answer
     requires { ⌜ (refusalIn (readyOf (now table) (length (now store))) ≡ none) × (rows ≡ rowsOf (now table)) ⌝ }
-    requires { ⌜ sound? (now table) (now store) found ≡ true ⌝ }
-    ensures { λ r. ⌜ saidStep r (now (store .exit)) ≡ stepOf (record { table = now (table .entry) }) (now (store .entry)) found (event time mask) ⌝ }
+    requires { ⌜ sound? (now table) (now store) (recordOf (arrival .seen) (arrival .last) rows (now truths) (now counts)) ≡ true ⌝ }
+    ensures { λ r. ⌜ LeftIn (stepOf (setupOf (now (table .entry))) (now (store .entry)) (recordOf (arrival .seen) (arrival .last) rows (now (truths .entry)) (now (counts .entry))) (event (arrival .time) (arrival .mask))) r (now (truths .exit)) (now (counts .exit)) (now (store .exit)) ⌝ }
 {
-    if TIME_LIMIT < time {
-        return refuse(Refusal::Late, found);
+    if TIME_LIMIT < arrival.time {
+        return Answer::Refused(Refusal::Late);
     }
-    if time < found.time {
-        return refuse(Refusal::Earlier, found);
+    if arrival.time < arrival.last {
+        return Answer::Refused(Refusal::Earlier);
     }
-    accept(table, store, rows, found, time, mask)
+    accept(table, store, rows, arrival, truths, counts)
 }
 
-// The rows are judged on copies of the found truths and counts; the last row's truth is the verdict.
+// The rows are judged beside a copy of the found truths; the last row's truth is the verdict.
 fn accept(
     table: &[u32],
     store: &mut [u64],
     rows: usize,
-    found: Record,
-    time: u64,
-    mask: u32,
-) -> Judged
-    requires { ⌜ refusalOf (record { table = now table }) (now store) found (event time mask) ≡ none ⌝ }
+    arrival: Arrival,
+    truths: &mut [u8; ROW_LIMIT],
+    counts: &mut [u32; ROW_LIMIT],
+) -> Answer
+    requires { ⌜ refusalOf (setupOf (now table)) (now store) (recordOf (arrival .seen) (arrival .last) rows (now truths) (now counts)) (event (arrival .time) (arrival .mask)) ≡ none ⌝ }
     requires { ⌜ rows ≡ rowsOf (now table) ⌝ }
-    ensures { λ r. ⌜ saidStep r (now (store .exit)) ≡ stepOf (record { table = now (table .entry) }) (now (store .entry)) found (event time mask) ⌝ }
+    ensures { λ r. ⌜ LeftIn (stepOf (setupOf (now (table .entry))) (now (store .entry)) (recordOf (arrival .seen) (arrival .last) rows (now (truths .entry)) (now (counts .entry))) (event (arrival .time) (arrival .mask))) r (now (truths .exit)) (now (counts .exit)) (now (store .exit)) ⌝ }
 {
-    let mut truths = found.truths;
-    let mut counts = found.counts;
-    judge_rows(
-        table,
-        store,
-        rows,
-        found,
-        time,
-        mask,
-        &mut truths,
-        &mut counts,
-    );
-    Judged {
-        answer: Answer::Verdict(truths[rows - 1]),
-        record: Record {
-            seen: true,
-            time,
-            rows: found.rows,
-            truths,
-            counts,
-        },
-    }
+    let found = *truths;
+    judge_rows(table, store, rows, arrival, &found, truths, counts);
+    Answer::Verdict(truths[rows - 1] == 1)
 }
 
-// A refusal, with the record given.
-fn refuse(refusal: Refusal, found: Record) -> Judged
-    ensures { λ r. ⌜ (r .answer ≡ Answer.Refused refusal) × (r .record ≡ found) ⌝ }
+// The answer with its record. A refused call leaves the truths and the counts, and so gives back the record given.
+fn give(
+    answer: Answer,
+    arrival: Arrival,
+    rows: u32,
+    truths: [u8; ROW_LIMIT],
+    counts: [u32; ROW_LIMIT],
+) -> Judged
+    ensures { λ r. ⌜ (r .answer ≡ answer) × (r .record ≡ recordLeft answer arrival rows truths counts) ⌝ }
 {
-    Judged {
-        answer: Answer::Refused(refusal),
-        record: found,
+    match answer {
+        Answer::Refused(refusal) => Judged {
+            answer: Answer::Refused(refusal),
+            record: Record {
+                seen: arrival.seen,
+                time: arrival.last,
+                rows,
+                truths,
+                counts,
+            },
+        },
+        Answer::Verdict(holds) => Judged {
+            answer: Answer::Verdict(holds),
+            record: Record {
+                seen: 1,
+                time: arrival.time,
+                rows,
+                truths,
+                counts,
+            },
+        },
     }
 }

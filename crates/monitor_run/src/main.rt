@@ -1,311 +1,226 @@
-// Runs the monitor over the tables of source 001 and over the numbers and examples of document 01; what it refuses is run by refusals_run. After
-// each call stand its answer, the truths and the spans; after each start and each refusal the whole record and store.
+// Runs what document 01 wants compared and the text program cannot show: the spans after each event, stores, records and times that no frame
+// reaches, the reader. After each call stand its answer, the record's time and row count, and the store. p is bit 0 and q is bit 1 of the mask.
 
-use calls::Kind;
-use calls::calls_from;
-use calls::run;
-use calls::time_alone;
+use libc::STDOUT_FILENO;
+use lines::frame::FrameFound;
+use lines::reader::frame_at;
+use monitor::answer::Answer;
+use monitor::answer::StartAnswer;
 use monitor::record::Record;
-use print::answers::memory;
-use print::text::heading;
-use rules::limits::ROW_LIMIT;
+use monitor::record::nothing_seen;
+use monitor::start::start;
+use monitor::step;
+use refusals::refusal;
+use refusals::refusal::Refusal;
 use rules::limits::ROW_NUMBERS;
-use samples::tables;
-use samples::tables::HEARTBEAT;
-use samples::tables::P;
-use samples::tables::Q;
-use samples::tables::put_rows;
+use rules::numbers::number_at;
+use times::interval::NO_END;
 
-mod calls;
+const P: u32 = 1;
+
+const Q: u32 = 2;
 
 // The last time that is taken, and the next.
-const LIMIT: u64 = 281_474_976_710_655;
+const LAST: u64 = 281_474_976_710_655;
 
-const OVER_LIMIT: u64 = 281_474_976_710_656;
+const LATE: u64 = 281_474_976_710_656;
 
-// The numbers of 64 rows, and of 65.
-const MOST: usize = 320;
+// Once [1,2] of once [1,2] of (p or q).
+const ONCE_ONCE: [[u32; ROW_NUMBERS]; 6] = [
+    [1, 0, 0, 0, 0],
+    [1, 1, 0, 0, 0],
+    [4, 0, 1, 0, 0],
+    [0, 0, 0, 0, 0],
+    [6, 3, 2, 1, 2],
+    [6, 3, 4, 1, 2],
+];
 
-const OVER: usize = 325;
+// Not once [1,2] not p.
+const ALWAYS: [[u32; ROW_NUMBERS]; 5] = [
+    [1, 0, 0, 0, 0],
+    [2, 0, 0, 0, 0],
+    [0, 0, 0, 0, 0],
+    [6, 2, 1, 1, 2],
+    [2, 3, 0, 0, 0],
+];
 
-// The words of the longest store, and the rows of the longest table that stands by rows.
-const WORDS: usize = 5;
+// p since [2,3] q; the same without its last number; p since [4,4] q, which needs six words.
+const SINCE: [u32; 15] = [1, 0, 0, 0, 0, 1, 1, 0, 0, 0, 6, 0, 1, 2, 3];
 
-const ROWS: usize = 8;
+const CUT: [u32; 14] = [1, 0, 0, 0, 0, 1, 1, 0, 0, 0, 6, 0, 1, 2];
+
+const SIX_WORDS: [u32; 15] = [1, 0, 0, 0, 0, 1, 1, 0, 0, 0, 6, 0, 1, 4, 4];
+
+// Once [2,2] p; once [1000, no end] p.
+const ONCE_TWO: [u32; 15] = [1, 0, 0, 0, 0, 0, 0, 0, 0, 0, 6, 1, 0, 2, 2];
+
+const ONCE_EVER: [u32; 15] = [1, 0, 0, 0, 0, 0, 0, 0, 0, 0, 6, 1, 0, 1000, NO_END];
 
 fn main() {
-    source();
-    numbers();
-    limits();
-    never_reached();
+    tables();
+    spans();
+    stores();
+    records();
+    reader(b"00020000000103\n00ab00000000ab\n00050000000006\n0007000000000");
 }
 
-// Numbers and examples of document 01.
-fn numbers() {
-    two_spans();
-    bounce();
-    long_gap();
-    no_end();
-    between_events();
-    step_back();
-}
-
-fn limits() {
-    time_limit();
-    time_alone(LIMIT, 0);
-    time_alone(OVER_LIMIT, 0);
-    longest();
-    rows();
-}
-
-// A heading, a start on so many words, each of which holds 9, and then the calls.
-fn stream(what: &[u8], table: &[u32], words: usize, kind: Kind, numbers: &[u64], masks: &[u32]) {
-    heading(what);
-    let mut space = [9; WORDS];
-    let store = &mut space[..];
-    if words <= store.len() {
-        run(table, &mut store[..words], kind, numbers, masks);
-    }
-}
-
-// The same for a table by rows.
-fn stream_by_rows(
-    what: &[u8],
-    rows: &[[u32; ROW_NUMBERS]],
-    words: usize,
-    kind: Kind,
-    numbers: &[u64],
-    masks: &[u32],
-) {
-    let mut table = [0; ROWS * ROW_NUMBERS];
-    put_rows(rows, &mut table);
-    if rows.len() <= ROWS {
-        first_numbers(
-            what,
-            &table,
-            rows.len() * ROW_NUMBERS,
-            words,
-            kind,
-            numbers,
-            masks,
-        );
-    }
-}
-
-// The same for a table of so many of the numbers.
-fn first_numbers(
-    what: &[u8],
-    table: &[u32],
-    length: usize,
-    words: usize,
-    kind: Kind,
-    numbers: &[u64],
-    masks: &[u32],
-) {
-    if length <= table.len() {
-        stream(what, &table[..length], words, kind, numbers, masks);
-    }
-}
-
-// Tables of source 001. Time is their index k.
-fn source() {
-    stream_by_rows(
-        b"source 001, Table 3: once [1,2] of once [1,2] of (p or q)\n",
-        &tables::ONCE_ONCE,
-        5,
-        Kind::Event,
-        &[1, 2, 3, 4, 5, 6],
-        &[P, 0, 0, 0, Q, 0],
-    );
-    stream_by_rows(
-        b"source 001, Table 4: always [1,2] p\n",
-        &tables::ALWAYS,
-        3,
-        Kind::Event,
-        &[1, 2, 3, 4, 5, 6],
-        &[0, 0, P, P, P, 0],
-    );
-    stream(
-        b"source 001, Table 5: p since [2,3] q\n",
-        &tables::SINCE,
-        5,
-        Kind::Event,
-        &[1, 2, 3, 4, 5, 6],
-        &[0, Q, P, P, P + Q, P],
-    );
-}
-
-fn two_spans() {
-    stream(
-        b"once [2,2] p, p at 0 and 2\n",
-        &tables::ONCE_TWO,
-        5,
-        Kind::Event,
-        &[0, 2, 4, 5],
-        &[P, P, 0, 0],
-    );
-}
-
-// A 200 metre race: the touch 65,546 ms after another is not 10 ms old.
-fn bounce() {
-    stream_by_rows(
-        b"the bounce rule over a race of 200 metres\n",
-        &tables::BOUNCE,
-        5,
-        Kind::Frame,
-        &[1000, 1004, 1004, 1019, 1021, 31000, 61000, 1010, 1020],
-        &[P, P, P, P, P, HEARTBEAT, HEARTBEAT, P, P],
-    );
-}
-
-fn long_gap() {
-    stream_by_rows(
-        b"previous [0, no end] p and not previous [0,0] p, over a gap of 4,294,967,296\n",
-        &tables::PREVIOUS,
-        1,
-        Kind::Event,
-        &[0, 4294967296, 4294967296],
-        &[P, P, 0],
-    );
-}
-
-// With the record and the store at the end.
-fn no_end() {
-    heading(b"once [1000, no end] p\n");
-    let mut space = [9; 3];
-    let store: &mut [u64] = &mut space;
-    let kept = run(
-        &tables::ONCE_EVER,
-        store,
-        Kind::Event,
-        &[0, 999, 1000, 4294968296],
-        &[P, P, 0, 0],
-    );
-    memory(kept, store);
-}
-
-fn between_events() {
-    stream_by_rows(
-        b"x since [0,100] q, x true at events with p only and never between\n",
-        &tables::AT_EVENTS,
-        5,
-        Kind::Event,
-        &[0, 40, 100, 101, 150, 160, 170],
-        &[P + Q, P, P, P, Q, 0, P],
-    );
-}
-
-fn step_back() {
-    stream(
-        b"once [0,65535] p, the counter steps back by 1\n",
-        &tables::ONCE_TURN,
-        3,
-        Kind::Frame,
-        &[100, 99, 100],
-        &[P, 0, 0],
-    );
-    time_alone(100, 99);
-    time_alone(65530, 4);
-    time_alone(65540, 4);
-}
-
-fn time_limit() {
-    heading(b"the limit of time\n");
-    let mut space = [9; 3];
-    let store: &mut [u64] = &mut space;
-    let kept = run(
-        &tables::ONCE_TURN,
-        store,
-        Kind::Event,
-        &[LIMIT, OVER_LIMIT],
-        &[P, 0],
-    );
-    calls_from(
-        &tables::ONCE_TURN,
-        store,
-        kept,
-        Kind::Frame,
-        &[0, 65535],
-        &[0, 0],
-    );
-}
-
-fn longest() {
-    stream(
-        b"b 86,400,000 is taken\n",
-        &tables::ONCE_DAY,
-        2,
-        Kind::Event,
-        &[0, 86400000, 86400001],
-        &[P, 0, 0],
-    );
-    stream(
-        b"b 86,400,001 is refused 3\n",
-        &tables::ONCE_OVER,
-        2,
-        Kind::Event,
-        &[0],
-        &[P],
-    );
-}
-
-fn rows() {
-    let mut table = [0; OVER];
-    negations(&mut table);
-    so_many(b"64 rows are taken\n", &table, MOST);
-    so_many(b"65 rows are refused 1\n", &table, OVER);
-}
-
-fn so_many(what: &[u8], table: &[u32; OVER], length: usize) {
-    first_numbers(what, table, length, 1, Kind::Event, &[0, 1], &[P, 0]);
-}
-
-// p in the first row; each later row is true where the row before it is false.
-fn negations(table: &mut [u32; OVER]) {
-    table[0] = 1;
-    let mut row = 1;
-    while row <= ROW_LIMIT {
-        table[row * ROW_NUMBERS] = 2;
-        table[row * ROW_NUMBERS + 1] = row as u32 - 1;
-        row += 1;
-    }
-}
-
-fn never_reached() {
-    heading(
-        b"(p since [2,3] q), or it was true at the previous event, from a record that is sound but never reached\n",
-    );
+// Source 001, Tables 3, 4 and 5; time is their index k.
+fn tables() {
+    say(b"-- Table 3: once [1,2] of once [1,2] of (p or q)\n");
+    let mut table = [0; 30];
+    put_rows(&ONCE_ONCE, &mut table);
+    stream(&table, &[1, 2, 3, 4, 5, 6], &[P, 0, 0, 0, Q, 0]);
+    say(b"-- Table 4: always [1,2] p\n");
     let mut table = [0; 25];
-    put_rows(&tables::SINCE_OR_BEFORE, &mut table);
-    from_sound(&table);
+    put_rows(&ALWAYS, &mut table);
+    stream(&table, &[1, 2, 3, 4, 5, 6], &[0, 0, P, P, P, 0]);
+    say(b"-- Table 5: p since [2,3] q\n");
+    stream(&SINCE, &[1, 2, 3, 4, 5, 6], &[0, Q, P, P, P + Q, P]);
 }
 
-fn from_sound(table: &[u32]) {
+fn spans() {
+    say(b"-- once [2,2] p, p at 0 and 2\n");
+    stream(&ONCE_TWO, &[0, 2, 4, 5], &[P, P, 0, 0]);
+    say(b"-- once [1000, no end] p\n");
+    stream(&ONCE_EVER, &[0, 999, 1000, LAST], &[P, P, 0, 0]);
+}
+
+fn stores() {
+    say(b"-- once [2,2] p on need - 1 words, and on need words\n");
+    let mut short = [9; 3];
+    begin(&ONCE_TWO, &mut short);
+    let mut enough = [9; 4];
+    begin(&ONCE_TWO, &mut enough);
+}
+
+// At 10 neither p nor q and still a span: sound, but never reached. Between its events refusals 1, 4, 7, 6 and 5.
+fn records() {
+    say(b"-- p since [2,3] q, from a record that was never reached\n");
     let mut space = [12, 13, 0, 0, 9];
     let store: &mut [u64] = &mut space;
-    let kept = sound_record();
-    memory(kept, store);
-    calls_from(
-        table,
-        store,
-        kept,
-        Kind::Event,
-        &[11, 13, 14, 15],
-        &[P, P + Q, P, Q],
-    );
+    let mut kept = nothing_seen(3);
+    kept.seen = 1;
+    kept.time = 10;
+    kept.counts[2] = 1;
+    let went = run(&SINCE, store, kept, &[11, 13], &[P, P + Q]);
+    call(&CUT, store, went, 14, P);
+    call(&SIX_WORDS, store, went, 14, P);
+    call(&SINCE, store, kept, 14, P);
+    run(&SINCE, store, went, &[LATE, 12, 14, 15], &[P, P, P, Q]);
 }
 
-// At time 10 neither p nor q and still a span, and the row that holds it is true though 10 lies in none.
-fn sound_record() -> Record {
-    let mut truths = [false; ROW_LIMIT];
-    truths[2] = true;
-    let mut counts = [0; ROW_LIMIT];
-    counts[2] = 1;
-    Record {
-        seen: true,
-        time: 10,
-        rows: 5,
-        truths,
-        counts,
+// A good line, a line in small letters, a wrong sum, a line that the end cuts off, and the end.
+fn reader(text: &[u8]) {
+    say(b"-- the reader\n");
+    let small = read(text, 0);
+    let sum = read(text, small);
+    let cut = read(text, sum);
+    let end = read(text, cut);
+    read(text, end);
+    read(text, usize::MAX);
+}
+
+// A start on words that hold 9, and events.
+fn stream(table: &[u32], times: &[u64], masks: &[u32]) {
+    let mut space = [9; 5];
+    let store: &mut [u64] = &mut space;
+    let begun = begin(table, store);
+    run(table, store, begun, times, masks);
+}
+
+// The numbers of the rows, one after the other.
+fn put_rows(rows: &[[u32; ROW_NUMBERS]], table: &mut [u32]) {
+    let mut at = 0;
+    while at < table.len() {
+        if rows.len() <= at / ROW_NUMBERS {
+            return;
+        }
+        table[at] = rows[at / ROW_NUMBERS][at % ROW_NUMBERS];
+        at += 1;
     }
+}
+
+fn begin(table: &[u32], store: &mut [u64]) -> Record {
+    say(b"start");
+    let started = start(table, store);
+    let answer = started.answer;
+    match answer {
+        StartAnswer::Good => say(b": good"),
+        StartAnswer::Refused(why) => refusal_told(why),
+    }
+    left(started.record, store);
+    started.record
+}
+
+// An event at each time.
+fn run(table: &[u32], store: &mut [u64], found: Record, times: &[u64], masks: &[u32]) -> Record {
+    let mut kept = found;
+    let mut i = 0;
+    while i < times.len() {
+        kept = call(table, store, kept, times[i], number_at(masks, i));
+        i += 1;
+    }
+    kept
+}
+
+fn call(table: &[u32], store: &mut [u64], found: Record, time: u64, mask: u32) -> Record {
+    labelled(b"event ", time);
+    labelled(b", mask ", mask as u64);
+    let judged = step::event(table, store, found, time, mask);
+    let answer = judged.answer;
+    match answer {
+        Answer::Verdict(holds) => labelled(b": verdict ", holds as u64),
+        Answer::Refused(why) => refusal_told(why),
+    }
+    left(judged.record, store);
+    judged.record
+}
+
+fn left(kept: Record, store: &[u64]) {
+    labelled(b", time ", kept.time);
+    labelled(b", rows ", kept.rows as u64);
+    say(b", store");
+    word(store, 0);
+    word(store, 1);
+    word(store, 2);
+    word(store, 3);
+    word(store, 4);
+    say(b"\n");
+}
+
+fn word(store: &[u64], at: usize) {
+    if at < store.len() {
+        labelled(b" ", store[at]);
+    }
+}
+
+fn read(text: &[u8], place: usize) -> usize {
+    labelled(b"at ", place as u64);
+    let read = frame_at(text, place);
+    let found = read.found;
+    match found {
+        FrameFound::End => say(b": end"),
+        FrameFound::Frame { counter, mask } => {
+            labelled(b": counter ", counter as u64);
+            labelled(b", mask ", mask as u64);
+        }
+        FrameFound::Refused(why) => refusal_told(why),
+    }
+    labelled(b", next ", read.next as u64);
+    say(b"\n");
+    read.next
+}
+
+fn refusal_told(why: Refusal) {
+    labelled(b": refused ", refusal::number(why) as u64);
+    labelled(b", row ", refusal::row(why) as u64);
+}
+
+fn labelled(text: &[u8], n: u64) {
+    say(text);
+    io::print_decimal(STDOUT_FILENO, n);
+}
+
+fn say(text: &[u8]) {
+    io::write_all(STDOUT_FILENO, text);
 }

@@ -2,12 +2,13 @@
 // whole line, writes, and only then waits again. Its memory is fixed.
 
 ghost use mathlib.Core.Path.{_≡_};
-ghost use Prim.Native.Nat.{_*_, _≤_};
+ghost use Prim.Native.Nat.{_*_, _≤_, _<_};
 ghost use lib.ListN.{length};
 ghost use Rattle.rules.specs.Limits.{rowLimit, rowNumbers};
-ghost use Rattle.text.specs.Replies.{longestReply};
+ghost use Rattle.text.specs.Replies.{longestReply, Wrote};
 ghost use Rattle.text.specs.Transcript.{emptyStore};
-ghost use Rattle.text.specs.Feed.{memoryOf, Stepped};
+ghost use Rattle.text.specs.Feed.{memoryOf, Stepped, textEnd};
+ghost use Rattle.muktrashi.specs.Loop.{Looped};
 use libc::STDIN_FILENO;
 use libc::STDOUT_FILENO;
 use rules::limits::ROW_LIMIT;
@@ -35,27 +36,48 @@ fn main() {
     run(&mut table, &mut store, &mut piece, &mut out);
 }
 
-// A proved loop has to end, and nothing says that a text does: it counts its turns down, from a number that no run uses up.
-fn run(table: &mut [u32], store: &mut [u64], piece: &mut [u8], out: &mut [u8])
-    requires { ⌜ (rowLimit * rowNumbers ≤ length (now table)) × (now store ≡ emptyStore) × (longestReply * length (now piece) ≤ length (now out)) ⌝ }
+// The state that the loop ends in, how many pieces it took, and whether it ended at the text's end.
+struct Ran {
+    state: State,
+    turns: u64,
+    ended: bool,
+}
+
+// A proved loop has to end, and nothing says that a text does: it counts its turns, up to a number that no run reaches.
+fn run(table: &mut [u32], store: &mut [u64], piece: &mut [u8], out: &mut [u8]) -> Ran
+    requires { ⌜ (rowLimit * rowNumbers ≤ length (now table)) × (now store ≡ emptyStore) × (0 < length (now piece)) × (longestReply * length (now piece) ≤ length (now out)) ⌝ }
+    ensures { λ r. ⌜ Looped (now (table .entry)) r (now (table .exit)) (now (store .exit)) (now (out .exit)) ⌝ }
 {
     let mut state = fresh();
-    let mut turns = u64::MAX;
-    while turns > 0 {
-        turns -= 1;
+    let mut turns = 0;
+    while turns < u64::MAX {
         let got = libc::read(STDIN_FILENO, piece);
         let n = io::count(got, piece);
         if n == 0 {
             end(state, out);
-            return;
+            return Ran {
+                state,
+                turns,
+                ended: true,
+            };
         }
         let fed = take_whole(state, table, store, &piece[..n], out);
-        let wrote = fed.wrote;
-        if !io::write_all(STDOUT_FILENO, &out[..wrote]) {
-            return;
-        }
         let left = fed.state;
         state = left;
+        turns += 1;
+        let wrote = fed.wrote;
+        if !io::write_all(STDOUT_FILENO, &out[..wrote]) {
+            return Ran {
+                state,
+                turns,
+                ended: false,
+            };
+        }
+    }
+    Ran {
+        state,
+        turns,
+        ended: false,
     }
 }
 
@@ -73,9 +95,13 @@ fn take_whole(
     step(state, table, store, piece, out)
 }
 
-// A read that ends, or fails, is the text's end.
-fn end(state: State, out: &mut [u8]) {
+// A read that ends, or fails, is the text's end. How many bytes it brings, from the output's start.
+fn end(state: State, out: &mut [u8]) -> usize
+    requires { ⌜ longestReply ≤ length (now out) ⌝ }
+    ensures { λ r. ⌜ Wrote (now (out .entry)) 0 (textEnd state) r (now (out .exit)) ⌝ }
+{
     let finished = finish(state, out);
     let wrote = finished.wrote;
     io::write_all(STDOUT_FILENO, &out[..wrote]);
+    wrote
 }

@@ -9,9 +9,10 @@ use Prim.Native.Nat.{ℕ, _-_, _≤_, _<_}
 use native.Mathlib.Omega.{arith}
 use Rattle.meaning.specs.History.{History, lastTime}
 use Rattle.rules.specs.Rows.{rowsOf}
-use Rattle.rules.specs.Refusals.{Refused, refused}
-use Rattle.rules.specs.declared.refusal.Refusal.the-variants.{Earlier, Late}
-use Rattle.monitor.specs.Record.{timeLimit, truthAt}
+use Rattle.refusals.specs.Refusals.{Refused, refused}
+use Rattle.refusals.specs.declared.refusal.Refusal.the-variants.{Earlier, Late}
+use Rattle.times.specs.Times.{timeLimit}
+use Rattle.monitor.specs.Record.{truthAt}
 use Rattle.monitor.specs.Step.{setupOf, Call, timeOf, maskOf, refusalOf, verdict, refusal, stepOf}
 use Rattle.promises.specs.Stream.{State, call, next, Keeps, keeps?, eventOf}
 use Rattle.promises.proofs.Invariant.{Invariant}

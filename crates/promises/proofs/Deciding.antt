@@ -7,7 +7,7 @@ use native.Mathlib.Nat.{eq-or-lt-of-le, le-of-suc-le-suc}
 use native.Mathlib.Omega.{arith}
 use lib.Dec.{T}
 use Rattle.meaning.proofs.Tells.{Tells, tells-and, tells-same}
-use Rattle.rules.specs.Refusals.{Refused}
+use Rattle.refusals.specs.Refusals.{Refused}
 use Rattle.monitor.specs.Soundness.{every}
 
 pub told-true : {s : Bool} {A : Type 0} → Tells s A → A → s ≡ true

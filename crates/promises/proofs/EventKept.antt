@@ -1,6 +1,6 @@
 -- One kept event keeps the invariant. By induction over the rows: each row's truth tells its formula at the event, from those of the lower rows, and
 -- its spans go from the runs before to the runs after.
-use mathlib.Core.Bool.{Bool, _&&_}
+use mathlib.Core.Bool.{Bool, true, false, not, _&&_}
 use mathlib.Core.List.{List, [], _∷_}
 use mathlib.Core.Logic.{⊎-elim}
 use mathlib.Core.Path.{_≡_, refl, _∙_}
@@ -17,21 +17,28 @@ use Rattle.meaning.proofs.Tells.{Tells, tells-eqb, tells-not, tells-and, tells-
 use Rattle.meaning.proofs.FormulaLaws.{tells-within}
 use Rattle.meaning.proofs.HistoryLaws.{NoLater, no-later-on}
 use Rattle.meaning.proofs.RunsLaws.{runs-event, runs-tell}
-use Rattle.rules.specs.Kinds.{Plain, truth, bit, negation, both, either, previous, Rule, plain, stretch}
-use Rattle.rules.specs.Rows.{rowsOf, numbersAt, ruleOf, named}
+use Rattle.rules.specs.Kinds.{Rule, plain, stretch}
+use Rattle.rules.specs.declared.plain.Plain.{Plain}
+use Rattle.rules.specs.declared.plain.Plain.the-variants as Plain
+use Rattle.rules.specs.Rows.{rowsOf, numbersAt, ruleOf, keptBy, feeder, taken, fedBy}
 use Rattle.rules.specs.Stretches.{needOf}
-use Rattle.rules.specs.RowFormula.{formula, formulaOf}
+use Rattle.rules.specs.RowFormula.{sinceOf, formula, formulaOf}
 use Rattle.rules.specs.declared.numbers.Numbers.{Numbers}
-use Rattle.rules.proofs.KindsLaws.{PlainNames, Names}
+use Rattle.rules.specs.declared.stretch.Keep.{Keep}
+use Rattle.rules.specs.declared.stretch.Keep.the-variants.{Unasked, WhileX, WhileY}
+use Rattle.rules.specs.declared.stretch.Stretch.{Stretch}
+use Rattle.rules.proofs.KindsLaws.{PlainNames, KeeperLower, Names}
 use Rattle.rules.proofs.PassedLaws.{range-order, passed-formula}
-use Rattle.monitor.specs.Record.{timeLimit, truthAt}
+use Rattle.times.specs.Times.{timeLimit}
+use Rattle.monitor.specs.Record.{wasSeen, truthAt}
 use Rattle.spans.proofs.CoverLaws.{covered-told}
 use Rattle.monitor.proofs.EventLaws.{Room, length-store}
-use Rattle.monitor.specs.Event.{Moment, spansBy, spansAfter, truthBy, truthOf, truthsAfter, spansNow, storeAfter, recordAfter}
+use Rattle.monitor.proofs.RisingLaws.{truth-told}
+use Rattle.monitor.specs.Event.{Moment, arrivalOf, spansBy, spansAfter, truthBy, truthOf, truthsAfter, spansNow, storeAfter, recordAfter}
 use Rattle.promises.specs.Stream.{State}
-use Rattle.promises.specs.Spans.{NamedHolds}
+use Rattle.promises.specs.Spans.{KeeperHolds, FeederHolds}
 use Rattle.promises.proofs.Invariant.{anySeen, Says, Spanned, RowFollows, Invariant}
-use Rattle.promises.proofs.RowsAfter.{truth-set, row-laid}
+use Rattle.promises.proofs.RowsAfter.{row-laid}
 use Rattle.promises.proofs.SoundAfter.{room-after}
 use Rattle.promises.proofs.SoundIsKept.{sound-after, sized-after}
 use Rattle.promises.proofs.InvariantLaws.{passes, spans-found}
@@ -54,12 +61,12 @@ previous-told φ a b e (d ∷ h) seen was last known time says =
     (tells-and before (tells-within a b (d .time) (e .time))))
 
 -- One row at an event, from the truths of the lower rows at it and at the event before.
-module _ (m : Moment) (h : History) (of : ℕ → Formula) (r : ℕ) (row : Numbers) (truths : List Bool) where
+module _ (m : Moment) (h : History) (of : ℕ → Formula) (r : ℕ) (row : Numbers) (truths : List ℕ) where
   abbrev event : Event
   event = record { time = m .time; mask = m .mask }
 
   record Lower : Type 0 where
-    seen : m .found .seen ≡ anySeen h
+    seen : wasSeen (m .found) ≡ anySeen h
     last : m .found .time ≡ lastTime h
     before : (x : ℕ) → x < r → Says h (truthAt (m .found .truths) x) (of x)
     at : (x : ℕ) → x < r → Tells (truthAt truths x) (Holds (of x) (event ∷ h))
@@ -67,16 +74,35 @@ module _ (m : Moment) (h : History) (of : ℕ → Formula) (r : ℕ) (row : Numb
   plain-told : (says : Plain) (after : List Span)
       → Lower
       → PlainNames r row says
-      → Tells (truthBy m truths after row (plain says)) (Holds (formula of row (plain says)) (event ∷ h))
+      → Tells (truthBy (arrivalOf m) (m .found .truths) truths after row (plain says)) (Holds (formula of row (plain says)) (event ∷ h))
   unfolding Holds
-  plain-told truth after lower names = record { sound = λ _. tt; complete = λ _. tt }
-  plain-told bit after lower names = tells-eqb _ 1
-  plain-told negation after lower names = tells-not (lower .at (row .x) names)
-  plain-told both after lower names = tells-and (lower .at (row .x) (names .0)) (lower .at (row .y) (names .1))
-  plain-told either after lower names = tells-or (lower .at (row .x) (names .0)) (lower .at (row .y) (names .1))
-  plain-told previous after lower names =
-      previous-told (of (row .x)) (row .a) (endOf (row .b)) event h (m .found .seen) (truthAt (m .found .truths) (row .x)) (m .found .time)
+  plain-told Plain.Truth after lower names = record { sound = λ _. tt; complete = λ _. tt }
+  plain-told Plain.Bit after lower names = tells-eqb _ 1
+  plain-told Plain.Negation after lower names = tells-not (lower .at (row .x) names)
+  plain-told Plain.Both after lower names = tells-and (lower .at (row .x) (names .0)) (lower .at (row .y) (names .1))
+  plain-told Plain.Either after lower names = tells-or (lower .at (row .x) (names .0)) (lower .at (row .y) (names .1))
+  plain-told Plain.Previous after lower names =
+      previous-told (of (row .x)) (row .a) (endOf (row .b)) event h (wasSeen (m .found)) (truthAt (m .found .truths) (row .x)) (m .found .time)
       (lower .seen) (lower .last) (lower .before (row .x) names)
+
+  -- What the columns of a stretch pick of the truths tells what they pick of the formulas.
+  kept-told : (keep : Keep) → Lower → KeeperLower r row keep
+      → Tells (keptBy true (truthAt truths) row keep) (Holds (keptBy Formula.truth of row keep) (event ∷ h))
+  unfolding Holds
+  kept-told Unasked lower names = record { sound = λ _. tt; complete = λ _. tt }
+  kept-told WhileX lower names = lower .at (row .x) names
+  kept-told WhileY lower names = lower .at (row .y) names
+
+  taken-told : (straight : Bool) (test : Bool) (φ : Formula)
+      → Tells test (Holds φ (event ∷ h))
+      → Tells (taken not straight test) (Holds (taken Formula.negation straight φ) (event ∷ h))
+  unfolding Holds
+  taken-told true test φ told = told
+  taken-told false test φ told = tells-not told
+
+  fed-told : (columns : Stretch) → Lower → feeder (columns .feed) row < r
+      → Tells (fedBy not (truthAt truths) row columns) (Holds (fedBy Formula.negation of row columns) (event ∷ h))
+  fed-told columns lower below = taken-told (columns .when) _ _ (lower .at (feeder (columns .feed) row) below)
 
 -- An event not before the clock and within the limit, where the invariant holds.
 module _ {table : List ℕ} {h : History} {clock : ℕ} {s : State} (inv : Invariant table h clock s) (time mask : ℕ)
@@ -103,7 +129,7 @@ module _ {table : List ℕ} {h : History} {clock : ℕ} {s : State} (inv : Invar
       → Tells (truthAt (truthsAfter m n) row) (Holds (formulaOf table row) longer)
   truths-told n few told row below =
       let least : rowsOf table ≤ length (s .found .truths) = omega (arith, inv .sized .truths, passes inv .few-rows) in
-      rw (truth-set m n row below (omega arith)) (told row below)
+      rw (truth-told m n row below (omega arith)) (told row below)
 
   module _ (row : ℕ) (known : row < rowsOf table) (told : (x : ℕ) → x < row → RowTold x) where
     abbrev numbers : Numbers
@@ -121,25 +147,28 @@ module _ {table : List ℕ} {h : History} {clock : ℕ} {s : State} (inv : Invar
     spans-by : (rule : Rule) (S : List Span)
         → Names row numbers rule
         → Spanned table row h clock rule S
-        → Spanned table row longer time rule (spansBy m (truthsAfter m row) S numbers rule)
+        → Spanned table row longer time rule (spansBy time (truthsAfter m row) S numbers rule)
     spans-by (plain says) S names spanned = refl
-    spans-by (stretch keep feed) S names spanned =
-        runs-event (NamedHolds table row keep) (NamedHolds table row feed) (numbers .a) (endOf (numbers .b))
+    spans-by (stretch columns) S names spanned =
+        runs-event (KeeperHolds table row columns) (FeederHolds table row columns) (numbers .a) (endOf (numbers .b))
         (range-order (numbers .a) (numbers .b) (passes inv .good row known .limits))
         (record { time = time; mask = mask }) h (no-later-on clock time h later (inv .ordered))
-        (truthAt (truthsAfter m row) (named keep numbers)) (truthAt (truthsAfter m row) (named feed numbers)) clock S
-        (lower .at (named keep numbers) (names .0)) (lower .at (named feed numbers) (names .1)) later spanned
+        (keptBy true (truthAt (truthsAfter m row)) numbers (columns .keep)) (fedBy not (truthAt (truthsAfter m row)) numbers columns) clock S
+        (kept-told m h (formulaOf table) row numbers (truthsAfter m row) (columns .keep) lower (names .0))
+        (fed-told m h (formulaOf table) row numbers (truthsAfter m row) columns lower (names .1)) later spanned
 
     truth-by : (rule : Rule) (after : List Span)
         → Names row numbers rule
         → Spanned table row longer time rule after
-        → Tells (truthBy m (truthsAfter m row) after numbers rule) (Holds (formula (formulaOf table) numbers rule) longer)
+        → Tells (truthBy (arrivalOf m) (s .found .truths) (truthsAfter m row) after numbers rule) (Holds (formula (formulaOf table) numbers rule) longer)
     truth-by (plain says) after names spanned = plain-told m h (formulaOf table) row numbers (truthsAfter m row) says after lower names
-    truth-by (stretch keep feed) after names spanned =
+    truth-by (stretch columns) after names spanned =
         let means =
-        runs-tell (formulaOf table (named keep numbers)) (formulaOf table (named feed numbers)) (numbers .a) (endOf (numbers .b)) longer after spanned
+        runs-tell (keptBy Formula.truth (formulaOf table) numbers (columns .keep)) (fedBy Formula.negation (formulaOf table) numbers columns)
+        (numbers .a) (endOf (numbers .b)) longer after spanned
         in
-        tells-same (means .0) (means .1) (covered-told time after)
+        taken-told m h (formulaOf table) row numbers (truthsAfter m row) (columns .inside) _ (sinceOf (formulaOf table) numbers columns)
+        (tells-same (means .0) (means .1) (covered-told time after))
 
     spans-follow : Spanned table row longer time (ruleOf numbers) (spansNow m row)
     unfolding spansAfter

@@ -16,13 +16,13 @@ use Rattle.meaning.specs.Runs.{Runs}
 use Rattle.meaning.specs.Figure.{figure}
 use Rattle.meaning.proofs.RunsLaws.{runs-only}
 use Rattle.meaning.proofs.FigureLaws.{pulseTime, pulses, pulse-time, pulses-last, filling, figure-is-filled}
-use Rattle.rules.specs.Kinds.{rowX, rowY, stretch, kindAt}
+use Rattle.rules.specs.Kinds.{stretch, xSinceY, kindAt}
 use Rattle.rules.specs.Rows.{rowsOf, numbersAt, ruleOf}
 use Rattle.rules.specs.Stretches.{needOf}
 use Rattle.rules.specs.RowFormula.{below, formulaOf}
 use Rattle.rules.specs.Table.{lengthPasses, rowPasses, faultOf, firstFault, passed, checkOf}
 use Rattle.rules.proofs.PassedLaws.{range-cases, range-order}
-use Rattle.monitor.specs.Record.{timeLimit}
+use Rattle.times.specs.Times.{timeLimit}
 use Rattle.monitor.specs.Ready.{readyOf}
 use Rattle.monitor.specs.Start.{startOf}
 use Rattle.monitor.specs.Step.{Call, event}
@@ -51,13 +51,13 @@ once-starts a b limits store exactly =
     let need = needOf (onceTable a b) in
     rw (once-passes a b limits, exactly, le-leb need need (omega arith))
 
-once-rule : (a b : ℕ) → ruleOf (numbersAt (onceTable a b) 2) ≡ stretch rowX rowY
+once-rule : (a b : ℕ) → ruleOf (numbersAt (onceTable a b) 2) ≡ stretch xSinceY
 unfolding numbersAt kindAt
 once-rule a b = refl
 
 -- Its runs are those of "once p".
 once-runs : (a b : ℕ) (h : History) (time : ℕ) (S : List Span)
-    → RowRuns (onceTable a b) 2 rowX rowY h time S
+    → RowRuns (onceTable a b) 2 xSinceY h time S
     → Runs (Holds truth) (Holds (bit 0)) a (endOf b) h time S
 unfolding numbersAt formulaOf below kindAt
 once-runs a b h time S runs = runs
@@ -134,7 +134,7 @@ once-full : (a b : ℕ)
 unfolding runs-fill
 once-full a b limits store exactly =
     let calls = fillingCalls a b in
-    let held = spans-are-the-runs (onceTable a b) store (once-starts a b limits store exactly) calls 2 rowX rowY (omega arith) (once-rule a b) in
+    let held = spans-are-the-runs (onceTable a b) store (once-starts a b limits store exactly) calls 2 xSinceY (omega arith) (once-rule a b) in
     let full = runs-fill a b limits in
     held .laid .counted
     ∙ ap length

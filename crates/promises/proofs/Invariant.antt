@@ -16,7 +16,7 @@ use Rattle.rules.specs.Rows.{rowsOf, numbersAt, ruleOf}
 use Rattle.rules.specs.Stretches.{width}
 use Rattle.rules.specs.RowFormula.{formulaOf}
 use Rattle.spans.specs.Layout.{Laid}
-use Rattle.monitor.specs.Record.{truthAt, heldAt, stretchAt}
+use Rattle.monitor.specs.Record.{wasSeen, truthAt, heldAt, stretchAt}
 use Rattle.promises.specs.Stream.{State}
 use Rattle.promises.specs.Conditions.{Ready, RecordRight}
 use Rattle.promises.specs.SoundIsKept.{Sized}
@@ -35,7 +35,7 @@ Says (e ∷ h) truth φ = T truth ↔ Holds φ (e ∷ h)
 -- A row's spans, by what it says: the runs of its stretch, none where it has no stretch.
 abbrev pub Spanned : List ℕ → ℕ → History → ℕ → Rule → List Span → Type 0
 Spanned table row h clock (plain says) S = S ≡ []
-Spanned table row h clock (stretch keep feed) S = RowRuns table row keep feed h clock S
+Spanned table row h clock (stretch columns) S = RowRuns table row columns h clock S
 
 -- A row of the table: its spans follow the kept events and are laid out in its stretch, its truth is the meaning's.
 pub record RowFollows (table : List ℕ) (row : ℕ) (h : History) (clock : ℕ) (s : State) : Type 0 where
@@ -49,7 +49,7 @@ pub record Invariant (table : List ℕ) (h : History) (clock : ℕ) (s : State) 
   pub now : clock ≡ lastTime h
   pub ordered : NoLater clock h
   pub time : s .found .time ≡ clock
-  pub seen : s .found .seen ≡ anySeen h
+  pub seen : wasSeen (s .found) ≡ anySeen h
   -- Room: the table is right, and the store has its need.
   pub ready : Ready table (length (s .store))
   -- Layout: the record has its entries and is sound.

@@ -17,6 +17,8 @@ pub mod TextRead
 pub mod TextAsIfNotMade
 pub mod SoundAfter
 pub mod SoundIsKept
+pub mod UpdateLaws
+pub mod OneEvent
 pub mod SpareWords
 pub mod OneOutcome
 pub mod SpannedLaws
@@ -26,7 +28,9 @@ pub mod EventKept
 pub mod CallKept
 pub mod StreamKept
 pub mod Verdicts
+pub mod FrameTimes
 pub mod LineTimes
 pub mod Spans
 pub mod Room
 pub mod FigureReached
+pub mod RefusedBetween

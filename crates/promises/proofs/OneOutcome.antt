@@ -1,8 +1,9 @@
 -- Any two outcomes that a contract allows are the same: what an answer says gives the answer back.
 use mathlib.Core.Option.{Option, none, some}
 use mathlib.Core.Path.{_≡_, refl, ap}
-use Rattle.rules.specs.Refusals.{Refused}
-use Rattle.rules.proofs.Outcomes.{one-said, refusalOf, refusal-back}
+use Rattle.refusals.specs.Refusals.{Refused}
+use Rattle.meaning.proofs.OneValue.{one-said}
+use Rattle.refusals.proofs.Outcomes.{refusalOf, refusal-back}
 use Rattle.monitor.specs.declared.answer.Judged.{Judged}
 use Rattle.monitor.specs.declared.answer.StartAnswer.{StartAnswer}
 use Rattle.monitor.specs.declared.answer.StartAnswer.the-variants as StartAnswer

@@ -4,7 +4,7 @@ use native.Mathlib.Omega.{arith}
 use Rattle.meaning.specs.Interval.{endOf, _+End_}
 use Rattle.rules.proofs.PassedLaws.{InRange, range-cases}
 use Rattle.spans.proofs.LayoutLaws.{Storable}
-use Rattle.monitor.specs.Record.{timeLimit}
+use Rattle.times.specs.Times.{timeLimit}
 
 pub latest-storable : (time a b : ℕ) → time ≤ timeLimit → InRange a b → Storable (time +End endOf b)
 latest-storable time a b within range = range-cases (λ end. Storable (time +End end)) a b range tt (λ order most. omega arith)

@@ -13,10 +13,10 @@ use lib.ListN.{length, drop, length-drop, List·getD-eq-default}
 use lib.Seq.{getD-drop}
 use Rattle.meaning.proofs.SpansLaws.{le-or-lt}
 use Rattle.meaning.proofs.Tells.{Tells, tells-leb, tells-eqb, tells-and, tells-or, tells-same, tells-decided}
-use Rattle.rules.specs.Refusals.{Refused}
+use Rattle.refusals.specs.Refusals.{Refused}
 use Rattle.lines.specs.Digits.{byteAt, byte0, byte9, byteA, byteF, byteDigits, byteValues, isDigit, digitsAt, hexAt}
 use Rattle.lines.specs.Line.{lineFeed, rightAt, sumAt, pastFirst, pastLineFeed, digitsOf, lineAt}
-use Rattle.lines.specs.Read.{Said, end, numbers, refusal, Read, bytesOf, numbersAt, readLine}
+use Rattle.lines.specs.Read.{LineReply, atEnd, goodLine, badLine, Read, bytesOf, numbersRead, readLine}
 use Rattle.lines.specs.Frame.{frameWidths}
 use Rattle.lines.specs.Rule.{ruleWidths}
 use Rattle.lines.proofs.DigitLaws.{digitsAt-most}
@@ -68,7 +68,7 @@ full-told false count n most told =
     record { sound = λ same. absurd (omega (arith, eqb→eq count (n + 1) same)); complete = λ holds. absurd (told .complete holds) }
 
 -- A line whose numbers have these widths, and shows these.
-module _ (widths : List ℕ) (shows : List ℕ → ℕ → List ℕ) (same : (text : List ℕ) (place : ℕ) → numbersAt text place 0 widths ≡ shows text place) where
+module _ (widths : List ℕ) (shows : List ℕ → ℕ → List ℕ) (same : (text : List ℕ) (place : ℕ) → numbersRead text place 0 widths ≡ shows text place) where
   abbrev bytes : ℕ
   bytes = bytesOf widths
 
@@ -101,7 +101,7 @@ module _ (widths : List ℕ) (shows : List ℕ → ℕ → List ℕ) (same : (te
 
     good-read : {given : List ℕ}
         → LineGood bytes shows text place given
-        → readLine widths text place ≡ record { said = numbers given; next = place + (digitsOf bytes + 1) }
+        → readLine widths text place ≡ record { said = goodLine given; next = place + (digitsOf bytes + 1) }
     unfolding lineAt
     good-read good =
         rw (
@@ -113,39 +113,39 @@ module _ (widths : List ℕ) (shows : List ℕ → ℕ → List ℕ) (same : (te
         )
 
     -- What a saying means, and that it is said where this holds.
-    abbrev Means : Said → Type 0
-    Means end = length text ≤ place
-    Means (numbers given) = LineGood bytes shows text place given
-    Means (refusal fault) = LineRefused bytes text place fault
+    abbrev Means : LineReply → Type 0
+    Means atEnd = length text ≤ place
+    Means (goodLine given) = LineGood bytes shows text place given
+    Means (badLine fault) = LineRefused bytes text place fault
 
-    refused-said : (fault : Refused) → LineRefused bytes text place fault → readLine widths text place .said ≡ refusal fault
+    refused-said : (fault : Refused) → LineRefused bytes text place fault → readLine widths text place .said ≡ badLine fault
     unfolding lineAt
     refused-said _ (eight before wrong) = rw (lt-leb (length text) place before, told-false formed-told wrong)
     refused-said _ (nine formed wrong) =
         rw (lt-leb (length text) place (inside formed), told-true formed-told formed, told-false sum-told wrong)
 
-    means-said : (said : Said) → Means said → readLine widths text place .said ≡ said
+    means-said : (said : LineReply) → Means said → readLine widths text place .said ≡ said
     unfolding lineAt
-    means-said end past = rw (le-leb (length text) place past)
-    means-said (numbers given) good = ap (λ (read : Read). read .said) (good-read good)
-    means-said (refusal fault) wrong = refused-said fault wrong
+    means-said atEnd past = rw (le-leb (length text) place past)
+    means-said (goodLine given) good = ap (λ (read : Read). read .said) (good-read good)
+    means-said (badLine fault) wrong = refused-said fault wrong
 
-    some-saying : (said : Said) × Means said
+    some-saying : (said : LineReply) × Means said
     some-saying =
         ⊎-elim
-        (λ past. (end, past))
+        (λ past. (atEnd, past))
         (λ before.
         ⊎-elim
         (λ formed.
         ⊎-elim
-        (λ sum. (numbers _, record { formed = formed; sum = sum; shown = refl }))
-        (λ wrong. (refusal _, nine formed wrong))
+        (λ sum. (goodLine _, record { formed = formed; sum = sum; shown = refl }))
+        (λ wrong. (badLine _, nine formed wrong))
         (tells-decided sum-told))
-        (λ wrong. (refusal _, eight before wrong))
+        (λ wrong. (badLine _, eight before wrong))
         (tells-decided formed-told))
         (le-or-lt (length text) place)
 
-    said-means : (said : Said) → (readLine widths text place .said ≡ said) ↔ Means said
+    said-means : (said : LineReply) → (readLine widths text place .said ≡ said) ↔ Means said
     said-means said =
         let (other, meant) = some-saying in
         (λ e. subst Means (sym (means-said other meant) ∙ e) meant, means-said said)
@@ -153,15 +153,15 @@ module _ (widths : List ℕ) (shows : List ℕ → ℕ → List ℕ) (same : (te
   said-exactly : SaidExactly (readLine widths) bytes shows
   said-exactly =
       record {
-        ends = λ text place. said-means text place end;
-        refuses = λ text place fault. said-means text place (refusal fault);
-        reads = λ text place given. said-means text place (numbers given);
+        ends = λ text place. said-means text place atEnd;
+        refuses = λ text place fault. said-means text place (badLine fault);
+        reads = λ text place given. said-means text place (goodLine given);
       }
 
-frame-shows : (text : List ℕ) (place : ℕ) → numbersAt text place 0 frameWidths ≡ counterAndMask text place
+frame-shows : (text : List ℕ) (place : ℕ) → numbersRead text place 0 frameWidths ≡ counterAndMask text place
 frame-shows text place = rw (add-zero place)
 
-rule-shows : (text : List ℕ) (place : ℕ) → numbersAt text place 0 ruleWidths ≡ ruleNumbers text place
+rule-shows : (text : List ℕ) (place : ℕ) → numbersRead text place 0 ruleWidths ≡ ruleNumbers text place
 rule-shows text place = rw (add-zero place)
 
 pub read-refused-exactly : ReadRefusedExactly

@@ -1,101 +1,163 @@
 -- The test of soundness tells document 01's conditions on a record, in both directions, where table and store passed before it.
+use mathlib.Core.Bool.{false, _&&_}
 use mathlib.Core.List.{List}
 use mathlib.Core.Logic.{_⊎_, inl, inr, ⊎-elim}
-use mathlib.Core.Path.{_≡_}
+use mathlib.Core.Path.{_≡_, refl}
 use Prim.Native.Nat.{ℕ, _≤_, _<_}
 use native.Mathlib.Omega.{arith}
-use lib.Dec.{T}
+use lib.Dec.{T, eqb}
 use lib.ListN.{length, getD}
 use Rattle.meaning.proofs.SpansLaws.{le-or-lt}
-use Rattle.meaning.proofs.Tells.{Tells, tells-leb, tells-ltb, tells-eqb, tells-not, tells-and, tells-or, tells-same}
+use Rattle.meaning.proofs.Tells.{Tells, tells-leb, tells-ltb, tells-eqb, tells-and, tells-or, tells-same}
 use Rattle.rules.specs.Limits.{rowLimit}
 use Rattle.rules.specs.Rows.{rowsOf, numbersAt}
 use Rattle.rules.specs.Stretches.{spansOf}
 use Rattle.monitor.specs.declared.record.Record.{Record}
-use Rattle.monitor.specs.Record.{timeLimit, truthAt}
-use Rattle.monitor.specs.Soundness.{soundEntry?, soundRow?, sound?}
+use Rattle.times.specs.Times.{timeLimit}
+use Rattle.monitor.specs.Record.{wasSeen, truthAt}
+use Rattle.monitor.specs.Soundness.{soundEntry?, soundRow?, zeroPast?, soundTime?, sound?}
+use Rattle.monitor.proofs.RecordLaws.{byte-unset}
 use Rattle.promises.specs.Conditions.{Ready, StretchRight, RecordRight}
-use Rattle.promises.proofs.Deciding.{tells-and-then, tells-every, tells-flag, not-set, unset, set-or, or-unset}
-use Rattle.promises.proofs.StretchTold.{since-or-other, since-spans, other-spans, row-stretch-told, other-stretch}
+use Rattle.promises.proofs.Deciding.{tells-and-then, tells-every, tells-flag, set-or, or-unset}
+use Rattle.promises.proofs.StretchTold.{since-or-other, since-spans, other-spans, past-other, row-stretch-told, other-stretch}
 
 pub within-or-past : (table : List ℕ) (row : ℕ) → (row < rowsOf table) ⊎ (rowsOf table ≤ row)
 within-or-past table row = ⊎-elim inr inl (le-or-lt (rowsOf table) row)
 
--- What the test asks of a row's truth and count.
-record EntryRight (table : List ℕ) (found : Record) (row : ℕ) : Type 0 where
-  truth : (row < rowsOf table) ⊎ (¬ T (truthAt (found .truths) row))
-  count : getD (found .counts) row 0 ≤ spansOf (numbersAt table row)
-  unseen : T (found .seen) ⊎ ((¬ T (truthAt (found .truths) row)) × (getD (found .counts) row 0 ≡ 0))
+-- A row of which nothing is said.
+abbrev Blank : Record → ℕ → Type 0
+Blank found row = (getD (found .truths) row 0 ≡ 0) × (getD (found .counts) row 0 ≡ 0)
 
-entry-told : (table : List ℕ) (found : Record) (row : ℕ) → Tells (soundEntry? table found row) (EntryRight table found row)
-unfolding soundEntry?
-entry-told table found row =
-    let false-told = tells-not (tells-flag (truthAt (found .truths) row)) in
-    let count = getD (found .counts) row 0 in
+-- A byte of 0 tells false.
+unset-at : (truths : List ℕ) (row : ℕ) → getD truths row 0 ≡ 0 → truthAt truths row ≡ false
+unset-at truths row none = rw none refl
+
+-- What the test asks of the time, of a row of the table, and of what stands past the rows.
+record TimeRight (found : Record) : Type 0 where
+  byte : found .seen ≤ 1
+  unseen : T (wasSeen found) ⊎ (found .time ≡ 0)
+  limit : found .time ≤ timeLimit
+
+time-told : (found : Record) → Tells (soundTime? (found .seen) (found .time)) (TimeRight found)
+time-told found =
     tells-same
-    (λ h. record { truth = h .0 .0; count = h .0 .1; unseen = h .1 })
-    (λ entry. ((entry .truth, entry .count), entry .unseen))
+    (λ h. record { byte = h .0 .0; unseen = h .0 .1; limit = h .1 })
+    (λ time. ((time .byte, time .unseen), time .limit))
     (tells-and
-    (tells-and (tells-or (tells-ltb row (rowsOf table)) false-told) (tells-leb count (spansOf (numbersAt table row))))
-    (tells-or (tells-flag (found .seen)) (tells-and false-told (tells-eqb count 0))))
+    (tells-and (tells-leb (found .seen) 1) (tells-or (tells-flag (wasSeen found)) (tells-eqb (found .time) 0)))
+    (tells-leb (found .time) timeLimit))
+
+record EntryRight (table : List ℕ) (found : Record) (row : ℕ) : Type 0 where
+  byte : getD (found .truths) row 0 ≤ 1
+  count : getD (found .counts) row 0 ≤ spansOf (numbersAt table row)
+  unseen : T (wasSeen found) ⊎ Blank found row
+
+blank-told : (found : Record) (row : ℕ) → Tells (eqb (getD (found .truths) row 0) 0 && eqb (getD (found .counts) row 0) 0) (Blank found row)
+blank-told found row = tells-and (tells-eqb (getD (found .truths) row 0) 0) (tells-eqb (getD (found .counts) row 0) 0)
+
+entry-told : (table : List ℕ) (found : Record) (row : ℕ)
+    → Tells (soundEntry? (wasSeen found) (getD (found .truths) row 0) (getD (found .counts) row 0) (numbersAt table row)) (EntryRight table found row)
+entry-told table found row =
+    tells-same
+    (λ h. record { byte = h .0 .0; count = h .0 .1; unseen = h .1 })
+    (λ entry. ((entry .byte, entry .count), entry .unseen))
+    (tells-and
+    (tells-and (tells-leb (getD (found .truths) row 0) 1) (tells-leb (getD (found .counts) row 0) (spansOf (numbersAt table row))))
+    (tells-or (tells-flag (wasSeen found)) (blank-told found row)))
+
+past-told : (table : List ℕ) (found : Record) (row : ℕ)
+    → Tells (zeroPast? (rowsOf table) (found .truths) (found .counts) row) ((row < rowsOf table) ⊎ Blank found row)
+unfolding zeroPast?
+past-told table found row = tells-or (tells-ltb row (rowsOf table)) (blank-told found row)
 
 -- What it asks of the record, in its order.
 record Tested (table store : List ℕ) (found : Record) : Type 0 where
-  rows : found .rows ≡ rowsOf table
-  entries : (row : ℕ) → row < rowLimit → EntryRight table found row
-  unseen : T (found .seen) ⊎ (found .time ≡ 0)
-  limit : found .time ≤ timeLimit
-  stretches : (row : ℕ) → row < rowsOf table → StretchRight table store found row
+  count : found .rows ≡ rowsOf table
+  time : TimeRight found
+  rows : (row : ℕ) → row < rowsOf table → EntryRight table found row × StretchRight table store found row
+  past : (row : ℕ) → row < rowLimit → (row < rowsOf table) ⊎ Blank found row
 
 module _ (table store : List ℕ) (ready : Ready table (length store)) (found : Record) where
+  row-told : found .time ≤ timeLimit
+      → (row : ℕ)
+      → row < rowsOf table
+      → Tells (soundRow? table store found row) (EntryRight table found row × StretchRight table store found row)
+  unfolding soundRow?
+  row-told early row lower = tells-and (entry-told table found row) (row-stretch-told table store ready found early row lower)
+
   test-told : Tells (sound? table store found) (Tested table store found)
   unfolding sound?
   test-told =
       tells-same
-      (λ h. record { rows = h .0 .0 .0 .0; entries = h .0 .0 .0 .1; unseen = h .0 .0 .1; limit = h .0 .1; stretches = h .1 })
-      (λ tested. ((((tested .rows, tested .entries), tested .unseen), tested .limit), tested .stretches))
+      (λ h. record { count = h .0 .0 .0; time = h .0 .0 .1; rows = h .0 .1; past = h .1 })
+      (λ tested. (((tested .count, tested .time), tested .rows), tested .past))
+      (tells-and
       (tells-and-then
-      (tells-and
-      (tells-and
-      (tells-and
-      (tells-eqb (found .rows) (rowsOf table))
-      (tells-every rowLimit (soundEntry? table found) (EntryRight table found) (λ row lower. entry-told table found row)))
-      (tells-or (tells-flag (found .seen)) (tells-eqb (found .time) 0)))
-      (tells-leb (found .time) timeLimit))
-      (λ before.
-      tells-every (rowsOf table) (soundRow? table store found) (StretchRight table store found)
-      (row-stretch-told table store ready found (before .1))))
+      (tells-and (tells-eqb (found .rows) (rowsOf table)) (time-told found))
+      (λ before. tells-every (rowsOf table) (soundRow? table store found) _ (row-told (before .1 .limit))))
+      (tells-every rowLimit (zeroPast? (rowsOf table) (found .truths) (found .counts)) _ (λ row lower. past-told table found row)))
+
+  -- A row is one of the table's, or nothing is said of it.
+  row-or-blank : Tested table store found → (row : ℕ) → row < rowLimit → ((row < rowsOf table) × EntryRight table found row) ⊎ Blank found row
+  row-or-blank tested row lower = ⊎-elim (λ known. inl (known, tested .rows row known .0)) inr (tested .past row lower)
 
   right-of-tested : Tested table store found → RecordRight table store found
   right-of-tested tested =
       record {
-        rows = tested .rows;
-        past = λ row past lower.
-            ⊎-elim (λ within. absurd (omega arith)) (not-set (truthAt (found .truths) row)) (tested .entries row lower .truth);
-        others = λ row lower other. omega (arith, tested .entries row lower .count, other-spans (numbersAt table row) other);
-        within = λ row lower since. rw (← since-spans (numbersAt table row) since) (tested .entries row lower .count);
-        unseen-time = or-unset (found .seen) (tested .unseen);
+        rows = tested .count;
+        past = λ row past lower. ⊎-elim (λ known. absurd (omega arith)) (λ blank. unset-at (found .truths) row (blank .0)) (tested .past row lower);
+        others = λ row lower other.
+            ⊎-elim
+            (λ known. omega (arith, known .1 .count, other-spans (numbersAt table row) other))
+            (λ blank. blank .1)
+            (row-or-blank tested row lower);
+        within = λ row lower since.
+            ⊎-elim
+            (λ known. rw (← since-spans (numbersAt table row) since) (known .1 .count))
+            (λ blank. omega (arith, blank .1))
+            (row-or-blank tested row lower);
+        unseen-time = or-unset (wasSeen found) (tested .time .unseen);
         unseen-rows = λ unseen row lower.
-            let both = or-unset (found .seen) (tested .entries row lower .unseen) unseen in
-            (not-set (truthAt (found .truths) row) (both .0), both .1);
-        limit = tested .limit;
-        stretches = λ row lower since. tested .stretches row lower;
+            let blank = ⊎-elim (λ known. or-unset (wasSeen found) (known .1 .unseen) unseen) (λ blank. blank) (row-or-blank tested row lower) in
+            (unset-at (found .truths) row (blank .0), blank .1);
+        limit = tested .time .limit;
+        seen-byte = tested .time .byte;
+        truth-bytes = λ row lower. ⊎-elim (λ known. omega (arith, known .1 .byte)) (λ blank. omega (arith, blank .0)) (row-or-blank tested row lower);
+        stretches = λ row lower since. tested .rows row lower .1;
       }
 
-  entry-of-right : RecordRight table store found → (row : ℕ) → row < rowLimit → EntryRight table found row
-  entry-of-right right row lower =
+  -- What tells false in a sound record is 0.
+  blank-of : RecordRight table store found
+      → (row : ℕ)
+      → row < rowLimit
+      → truthAt (found .truths) row ≡ false
+      → getD (found .counts) row 0 ≡ 0
+      → Blank found row
+  blank-of right row lower unset none = (byte-unset (getD (found .truths) row 0) (right .truth-bytes row lower) unset, none)
+
+  entry-of-right : RecordRight table store found → (row : ℕ) → row < rowsOf table → EntryRight table found row
+  entry-of-right right row known =
+      let lower : row < rowLimit = omega (arith, ready .right .lengths .most) in
       record {
-        truth = ⊎-elim inl (λ past. inr (unset (truthAt (found .truths) row) (right .past row past lower))) (within-or-past table row);
+        byte = right .truth-bytes row lower;
         count =
             ⊎-elim
             (λ since. rw (since-spans (numbersAt table row) since) (right .within row lower since))
             (λ other. omega (arith, right .others row lower other))
             (since-or-other (numbersAt table row));
         unseen =
-            set-or (found .seen)
-            (λ unseen.
-            let both = right .unseen-rows unseen row lower in (unset (truthAt (found .truths) row) (both .0), both .1));
+            set-or (wasSeen found)
+            (λ unseen. let both = right .unseen-rows unseen row lower in blank-of right row lower (both .0) (both .1));
       }
+
+  past-of-right : RecordRight table store found → (row : ℕ) → row < rowLimit → (row < rowsOf table) ⊎ Blank found row
+  past-of-right right row lower =
+      ⊎-elim
+      inl
+      (λ past.
+      inr
+      (blank-of right row lower (right .past row past lower) (right .others row lower (past-other table row (ready .right .lengths) past))))
+      (within-or-past table row)
 
   -- Every row's stretch of a sound record is right, a since row's or not.
   pub all-stretches : RecordRight table store found → (row : ℕ) → row < rowsOf table → StretchRight table store found row
@@ -110,10 +172,9 @@ module _ (table store : List ℕ) (ready : Ready table (length store)) (found : 
       tells-same right-of-tested
       (λ right.
       record {
-        rows = right .rows;
-        entries = entry-of-right right;
-        unseen = set-or (found .seen) (right .unseen-time);
-        limit = right .limit;
-        stretches = all-stretches right;
+        count = right .rows;
+        time = record { byte = right .seen-byte; unseen = set-or (wasSeen found) (right .unseen-time); limit = right .limit };
+        rows = λ row lower. (entry-of-right right row lower, all-stretches right row lower);
+        past = past-of-right right;
       })
       test-told

@@ -11,15 +11,16 @@ use lib.ListN.{length}
 use Rattle.meaning.specs.FrameTime.{frameTime}
 use Rattle.meaning.proofs.SpansLaws.{le-or-lt}
 use Rattle.meaning.proofs.Tells.{tells-decided}
-use Rattle.rules.specs.Refusals.{Refused, refused}
-use Rattle.rules.specs.Table.{Said, passed, refusedBy, checkOf}
-use Rattle.rules.specs.declared.refusal.Refusal.the-variants.{Earlier, Late, Record}
-use Rattle.monitor.specs.declared.record.Record as Kept
-use Rattle.monitor.specs.Record.{timeLimit, nothingSeen}
+use Rattle.refusals.specs.Refusals.{Refused, refused}
+use Rattle.rules.specs.Table.{CheckReply, passed, refusedBy, checkOf}
+use Rattle.refusals.specs.declared.refusal.Refusal.the-variants.{Earlier, Late, Unsound}
+use Rattle.monitor.specs.declared.record.Record.{Record}
+use Rattle.times.specs.Times.{timeLimit}
+use Rattle.monitor.specs.Record.{nothingSeen}
 use Rattle.monitor.specs.Ready.{readyOf}
 use Rattle.monitor.specs.Event.{Moment, recordAfter}
 use Rattle.monitor.specs.Start.{begin, startOf}
-use Rattle.monitor.specs.Step.{Setup, Call, timeOf, refusalOf, momentOf, verdictOf, verdict, refusal, outcome, stepOf, at, notAt, frameTimeOf}
+use Rattle.monitor.specs.Step.{Setup, Call, timeOf, refusalOf, momentOf, verdictOf, verdict, refusal, outcomeBy, stepOf, at, notAt, frameTimeOf}
 use Rattle.promises.specs.Conditions.{Ready, RecordRight}
 use Rattle.promises.specs.Refusing.{TableRefused, StartRefused, CallRefused, start, seven, six, five, RefusedExactly, RefusalChangesNothing}
 use Rattle.promises.proofs.Deciding.{told-true, told-false, exactly}
@@ -47,13 +48,13 @@ start-exactly table store =
     (start-decided table (length store))
 
 -- No condition on a call fails.
-pub record Accepted (setup : Setup) (store : List ℕ) (found : Kept.Record) (c : Call) : Type 0 where
+pub record Accepted (setup : Setup) (store : List ℕ) (found : Record) (c : Call) : Type 0 where
   pub ready : Ready (setup .table) (length store)
   pub sound : RecordRight (setup .table) store found
   pub early : timeOf (found .time) c ≤ timeLimit
   pub risen : found .time ≤ timeOf (found .time) c
 
-module _ (setup : Setup) (store : List ℕ) (found : Kept.Record) (c : Call) where
+module _ (setup : Setup) (store : List ℕ) (found : Record) (c : Call) where
   call-refuses : (fault : Refused) → CallRefused setup store found c fault → refusalOf setup store found c ≡ some fault
   unfolding refusalOf
   call-refuses fault (start wrong) = rw (start-refuses (setup .table) (length store) fault wrong)
@@ -102,7 +103,7 @@ module _ (setup : Setup) (store : List ℕ) (found : Kept.Record) (c : Call) whe
   record-decided ready =
       ⊎-elim
       (times-decided ready)
-      (λ wrong. inr (refused Record, seven ready wrong))
+      (λ wrong. inr (refused Unsound, seven ready wrong))
       (tells-decided (record-told (setup .table) store ready found))
 
   call-decided : Decided
@@ -144,13 +145,13 @@ pub refused-exactly : RefusedExactly
 refused-exactly = record { check = check-exactly; start = start-exactly; call = call-exactly; time = time-exactly }
 
 -- What stands beside a refusal.
-outcome-refused : (setup : Setup) (store : List ℕ) (found : Kept.Record) (m : Moment) (o : Option Refused) (fault : Refused)
-    → outcome setup store found m o .reply ≡ refusal fault
-    → (outcome setup store found m o .left ≡ found) × (outcome setup store found m o .store ≡ store)
+outcome-refused : (setup : Setup) (store : List ℕ) (found : Record) (m : Moment) (o : Option Refused) (fault : Refused)
+    → outcomeBy setup store found m o .reply ≡ refusal fault
+    → (outcomeBy setup store found m o .left ≡ found) × (outcomeBy setup store found m o .store ≡ store)
 outcome-refused setup store found m none fault e = let clash : _≡_ {A = ℕ} 0 1 = cc in absurd (omega arith)
 outcome-refused setup store found m (some first) fault e = (refl, refl)
 
-begin-refused : (store : List ℕ) (said : Said) (fault : Refused)
+begin-refused : (store : List ℕ) (said : CheckReply) (fault : Refused)
     → begin store said .refusal ≡ some fault
     → (begin store said .given ≡ nothingSeen 0) × (begin store said .store ≡ store)
 begin-refused store (passed rows need) fault e = let clash : _≡_ {A = ℕ} 0 1 = cc in absurd (omega arith)

@@ -5,12 +5,13 @@ use mathlib.Core.Path.{_≡_, ap}
 use Prim.Native.Nat.{ℕ, _≤_, _<_}
 use native.Mathlib.Omega.{arith}
 use lib.ListN.{length}
-use Rattle.rules.specs.Kinds.{Source, stretch}
-use Rattle.rules.specs.Refusals.{refused, numberOf}
+use Rattle.rules.specs.Kinds.{stretch}
+use Rattle.refusals.specs.Refusals.{refused, numberOf}
 use Rattle.rules.specs.Rows.{rowsOf, numbersAt, ruleOf}
 use Rattle.rules.specs.Stretches.{spansOf}
-use Rattle.rules.specs.declared.refusal.Refusal.{Refusal}
-use Rattle.rules.specs.declared.refusal.Refusal.the-variants.{Store, Record, Earlier, Late}
+use Rattle.rules.specs.declared.stretch.Stretch.{Stretch}
+use Rattle.refusals.specs.declared.refusal.Refusal.{Refusal}
+use Rattle.refusals.specs.declared.refusal.Refusal.the-variants.{Store, Unsound, Earlier, Late}
 use Rattle.meaning.specs.Spans.{Span}
 use Rattle.monitor.specs.Step.{Call, refusal}
 use Rattle.promises.specs.Stream.{Starts, state, history, clock, outcome}
@@ -37,21 +38,21 @@ module _ (table store : List ℕ) (starts : Starts table store) (calls : List Ca
       (λ same. earlier (ap (λ fault. fault .number) same))
       (refused-only stream c (refused other) said)
 
-  runs-enough : (row : ℕ) (keep feed : Source) (S : List Span)
+  runs-enough : (row : ℕ) (columns : Stretch) (S : List Span)
       → row < rowsOf table
-      → ruleOf (numbersAt table row) ≡ stretch keep feed
-      → RowRuns table row keep feed (history calls) (clock calls) S
+      → ruleOf (numbersAt table row) ≡ stretch columns
+      → RowRuns table row columns (history calls) (clock calls) S
       → length S ≤ spansOf (numbersAt table row)
-  runs-enough row keep feed S known since runs =
+  runs-enough row columns S known since runs =
       rw since
       (spanned-enough table row (history calls) (clock calls) (stream .ordered)
       (passes stream .good row known .limits)
-      (stretch keep feed) S runs)
+      (stretch columns) S runs)
 
 pub never-short-of-room : NeverShortOfRoom
 never-short-of-room table store starts calls =
     record {
       room = λ c. not-refused table store starts calls c Store (omega arith) (omega arith);
-      sound = λ c. not-refused table store starts calls c Record (omega arith) (omega arith);
+      sound = λ c. not-refused table store starts calls c Unsound (omega arith) (omega arith);
       enough = runs-enough table store starts calls;
     }

@@ -1,5 +1,5 @@
 -- An event at a sound record: whatever the truths, each row's spans after it are sound and have room, whether or not a stream reaches the record.
-use mathlib.Core.Bool.{Bool}
+use mathlib.Core.Bool.{true, not}
 use mathlib.Core.List.{List}
 use Prim.Native.Nat.{ℕ, _+_, _≤_, _<_}
 use native.Mathlib.Omega.{arith}
@@ -9,11 +9,12 @@ use Rattle.meaning.specs.Spans.{Span}
 use Rattle.meaning.specs.Sound.{lengthOf}
 use Rattle.meaning.proofs.SoundLaws.{none-sound}
 use Rattle.rules.specs.Kinds.{Rule, plain, stretch}
-use Rattle.rules.specs.Rows.{rowsOf, numbersAt, ruleOf, named}
+use Rattle.rules.specs.Rows.{rowsOf, numbersAt, ruleOf, keptBy, fedBy}
 use Rattle.rules.specs.Stretches.{needOf}
 use Rattle.rules.specs.declared.numbers.Numbers.{Numbers}
 use Rattle.rules.proofs.PassedLaws.{InRange, range-order}
-use Rattle.monitor.specs.Record.{timeLimit, truthAt, spansFound}
+use Rattle.times.specs.Times.{timeLimit}
+use Rattle.monitor.specs.Record.{truthAt, spansFound}
 use Rattle.monitor.specs.Event.{Moment, spansBy, spansAfter, truthsAfter, spansNow}
 use Rattle.spans.proofs.LayoutLaws.{laid-read}
 use Rattle.meaning.proofs.SoundKept.{sound-kept}
@@ -66,18 +67,18 @@ module _
     range : InRange (n .a) (n .b)
     range = in-range-of (ready .right .rows row lower .1)
 
-    found-sound : RowSound n (m .found .time) before
+    found-sound : RowSound n (m .found .time) (m .found .time) before
     found-sound =
         let kept : StretchRight (m .table) (m .store) (m .found) row = all-stretches (m .table) (m .store) ready (m .found) right row lower in
         rw (laid-read (kept .laid) (row-stored n (m .found .time) (kept .spans) (right .limit) range (kept .sound))) (kept .sound)
 
-    by-sound : (truths : List Bool) (rule : Rule) → RowSound n (m .time) (spansBy m truths before n rule)
+    by-sound : (truths : List ℕ) (rule : Rule) → RowSound n (m .time) (m .time) (spansBy (m .time) truths before n rule)
     by-sound truths (plain says) = none-sound (m .time) (m .time + n .a) (m .time +End endOf (n .b)) (lengthOf (n .a) (endOf (n .b)))
-    by-sound truths (stretch keep feed) =
-        sound-kept (truthAt truths (named keep n)) (truthAt truths (named feed n)) (m .found .time) (m .time) (m .found .time) (n .a)
+    by-sound truths (stretch columns) =
+        sound-kept (keptBy true (truthAt truths) n (columns .keep)) (fedBy not (truthAt truths) n columns) (m .found .time) (m .time) (m .found .time) (n .a)
         (m .found .time + n .a) (m .time + n .a) (endOf (n .b)) before
         (range-order (n .a) (n .b) range) risen risen (omega arith) (omega arith) found-sound
 
-    pub now-sound : RowSound n (m .time) (spansNow m row)
+    pub now-sound : RowSound n (m .time) (m .time) (spansNow m row)
     unfolding spansAfter
     now-sound = by-sound (truthsAfter m row) (ruleOf n)

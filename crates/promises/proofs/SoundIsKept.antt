@@ -3,21 +3,24 @@ use mathlib.Core.Bool.{Bool, true, false}
 use mathlib.Core.List.{List}
 use mathlib.Core.Logic.{⊎-elim}
 use mathlib.Core.Option.{Option, none, some}
-use mathlib.Core.Path.{_≡_, refl, _∙_}
+use mathlib.Core.Path.{_≡_, refl, ap, _∙_}
 use Prim.Native.Nat.{ℕ, _≤_, _<_}
 use native.Mathlib.Omega.{arith}
 use lib.ListN.{length, getD}
-use Rattle.rules.specs.Refusals.{Refused}
+use Rattle.refusals.specs.Refusals.{Refused}
 use Rattle.rules.specs.Rows.{rowsOf, numbersAt}
 use Rattle.rules.specs.Stretches.{spansOf}
 use Rattle.monitor.specs.declared.record.Record.{Record}
-use Rattle.monitor.specs.Record.{timeLimit}
-use Rattle.monitor.specs.Event.{Moment, spansNow, countsAfter, storeAfter, recordAfter}
-use Rattle.monitor.specs.Step.{Setup, refusalOf, momentOf, verdict, outcome, stepOf}
+use Rattle.times.specs.Times.{timeLimit}
+use Rattle.monitor.specs.Record.{isTrue}
+use Rattle.monitor.specs.Event.{Moment, truthOf, truthsAfter, spansNow, countsAfter, storeAfter, recordAfter}
+use Rattle.monitor.specs.Step.{Setup, refusalOf, momentOf, verdict, outcomeBy, stepOf}
+use Rattle.monitor.proofs.RecordLaws.{byte-small}
 use Rattle.monitor.proofs.EventLaws.{Room, length-store}
+use Rattle.monitor.proofs.RisingLaws.{length-truths, truth-set, truth-left, length-counts, count-set, count-left}
 use Rattle.promises.specs.Conditions.{Ready, RecordRight}
 use Rattle.promises.specs.SoundIsKept.{Sized, SoundIsKept}
-use Rattle.promises.proofs.RowsAfter.{length-truths, truth-left, length-counts, count-set, count-left, row-laid}
+use Rattle.promises.proofs.RowsAfter.{row-laid}
 use Rattle.promises.proofs.StretchTold.{since-spans, other-spans}
 use Rattle.promises.proofs.RecordTold.{within-or-past}
 use Rattle.promises.proofs.SoundAfter.{now-sound, room-after}
@@ -54,7 +57,7 @@ module _
     sound-after =
         record {
           rows = right .rows;
-          past = λ row past lower. truth-left m rows row past ∙ right .past row past lower;
+          past = λ row past lower. ap isTrue (truth-left m rows row past) ∙ right .past row past lower;
           others = λ row lower other.
               ⊎-elim
               (λ known. omega (arith, count-fits row known, other-spans (numbersAt (m .table) row) other))
@@ -68,6 +71,12 @@ module _
           unseen-time = unseen-never;
           unseen-rows = unseen-never;
           limit = early;
+          seen-byte = omega arith;
+          truth-bytes = λ row lower.
+              ⊎-elim
+              (λ known. rw (truth-set m rows row known (omega (arith, sized .truths))) (byte-small (truthOf m row (truthsAfter m row))))
+              (λ past. rw (truth-left m rows row past) (right .truth-bytes row lower))
+              (within-or-past (m .table) row);
           stretches = λ row lower since.
               record {
                 spans = spansNow m row;
@@ -85,8 +94,8 @@ sized-after m sized =
     }
 
 -- A verdict is given where no condition fails.
-verdict-passes : (setup : Setup) (store : List ℕ) (found : Record) (m : Moment) (o : Option Refused) (holds : Bool)
-    → outcome setup store found m o .reply ≡ verdict holds
+pub verdict-passes : (setup : Setup) (store : List ℕ) (found : Record) (m : Moment) (o : Option Refused) (holds : Bool)
+    → outcomeBy setup store found m o .reply ≡ verdict holds
     → o ≡ none
 verdict-passes setup store found m none holds e = refl
 verdict-passes setup store found m (some fault) holds e = let clash : _≡_ {A = ℕ} 0 1 = cc in absurd (omega arith)

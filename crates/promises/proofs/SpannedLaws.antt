@@ -16,7 +16,7 @@ use Rattle.rules.specs.Rows.{numbersAt}
 use Rattle.rules.specs.Stretches.{spansSaid}
 use Rattle.rules.proofs.PassedLaws.{InRange, range-order}
 use Rattle.promises.specs.Conditions.{RowSound}
-use Rattle.promises.specs.Spans.{NamedHolds}
+use Rattle.promises.specs.Spans.{KeeperHolds, FeederHolds}
 use Rattle.promises.proofs.Invariant.{Spanned}
 
 module _ (table : List ℕ) (row : ℕ) (h : History) (clock : ℕ) where
@@ -24,14 +24,14 @@ module _ (table : List ℕ) (row : ℕ) (h : History) (clock : ℕ) where
       → InRange (numbersAt table row .a) (numbersAt table row .b)
       → (rule : Rule) (S : List Span)
       → Spanned table row h clock rule S
-      → RowSound (numbersAt table row) clock S
+      → RowSound (numbersAt table row) clock clock S
   spanned-sound ordered range (plain says) S spanned = rw spanned (none-sound _ _ _ _)
-  spanned-sound ordered range (stretch keep feed) S spanned =
+  spanned-sound ordered range (stretch columns) S spanned =
       let a = numbersAt table row .a in
       let b = endOf (numbersAt table row .b) in
       let first : max clock (clock + a) ≡ clock + a = omega arith in
       rw first at
-      (runs-sound (NamedHolds table row keep) (NamedHolds table row feed) a b h clock clock S
+      (runs-sound (KeeperHolds table row columns) (FeederHolds table row columns) a b h clock clock S
       (range-order a (numbersAt table row .b) range) ordered spanned)
 
   pub spanned-enough : NoLater clock h
@@ -40,13 +40,13 @@ module _ (table : List ℕ) (row : ℕ) (h : History) (clock : ℕ) where
       → Spanned table row h clock rule S
       → length S ≤ spansSaid rule (numbersAt table row)
   spanned-enough ordered range (plain says) S spanned = let empty : length S ≡ 0 = ap length spanned in omega arith
-  spanned-enough ordered range (stretch keep feed) S spanned =
+  spanned-enough ordered range (stretch columns) S spanned =
       let a = numbersAt table row .a in
       figure-is-enough clock (clock + a) clock a (endOf (numbersAt table row .b)) S (omega arith)
-      (spanned-sound ordered range (stretch keep feed) S spanned)
+      (spanned-sound ordered range (stretch columns) S spanned)
 
 pub spanned-none : (table : List ℕ) (row clock : ℕ) (rule : Rule) (S : List Span) → Spanned table row [] clock rule S → S ≡ []
 spanned-none table row clock (plain says) S spanned = spanned
-spanned-none table row clock (stretch keep feed) S spanned =
-    runs-only (NamedHolds table row keep) (NamedHolds table row feed) _ _ [] clock S [] spanned
-    (runs-none (NamedHolds table row keep) (NamedHolds table row feed) _ _ clock)
+spanned-none table row clock (stretch columns) S spanned =
+    runs-only (KeeperHolds table row columns) (FeederHolds table row columns) _ _ [] clock S [] spanned
+    (runs-none (KeeperHolds table row columns) (FeederHolds table row columns) _ _ clock)

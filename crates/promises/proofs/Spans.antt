@@ -1,68 +1,83 @@
 -- Demand 3, its runs, read off the invariant.
-use mathlib.Core.Bool.{Bool}
+use mathlib.Core.Bool.{Bool, true, false}
 use mathlib.Core.List.{List, [], _∷_}
 use mathlib.Core.Logic.{_↔_}
-use mathlib.Core.Path.{_≡_, _∙_}
+use mathlib.Core.Path.{_≡_, refl, _∙_}
 use Prim.Native.Nat.{ℕ, _<_}
+use native.Mathlib.Omega.{arith}
 use lib.Dec.{T}
 use Rattle.meaning.specs.Interval.{endOf}
-use Rattle.meaning.specs.History.{History, lastTime}
-use Rattle.meaning.specs.Formula.{Formula}
+use Rattle.meaning.specs.History.{Event, History, lastTime}
+use Rattle.meaning.specs.Formula.{Formula, Holds}
 use Rattle.meaning.specs.Spans.{Span, In}
 use Rattle.meaning.proofs.RunsLaws.{runs-tell}
-use Rattle.rules.specs.Kinds.{Source, stretch}
-use Rattle.rules.specs.Rows.{rowsOf, numbersAt, ruleOf, named}
+use Rattle.rules.specs.Kinds.{stretch}
+use Rattle.rules.specs.Rows.{rowsOf, numbersAt, ruleOf, keptBy, taken, fedBy}
 use Rattle.rules.specs.Stretches.{needOf}
-use Rattle.rules.specs.RowFormula.{formulaOf}
+use Rattle.rules.specs.RowFormula.{sinceOf, formulaOf}
+use Rattle.rules.specs.declared.stretch.Stretch.{Stretch}
 use Rattle.rules.proofs.PassedLaws.{passed-formula}
 use Rattle.monitor.specs.Record.{truthAt}
 use Rattle.promises.specs.Stream.{State, state, history}
-use Rattle.promises.specs.Spans.{RowRuns, HoldsRuns, SpansAreTheRuns}
+use Rattle.promises.specs.Spans.{RowRuns, InOrOut, HoldsRuns, SpansAreTheRuns}
 use Rattle.promises.proofs.Invariant.{Says, Invariant}
-use Rattle.promises.proofs.SpannedLaws.{spanned-none}
 use Rattle.promises.proofs.InvariantLaws.{passes}
 use Rattle.promises.proofs.StreamKept.{stream-kept}
 
-module _ (table : List ℕ) (row : ℕ) (keep feed : Source) where
-  abbrev sinceFormula : Formula
-  sinceFormula =
-      Formula.since (formulaOf table (named keep (numbersAt table row))) (formulaOf table (named feed (numbersAt table row)))
-      (numbersAt table row .a) (endOf (numbersAt table row .b))
+-- A history with an event is not empty.
+some-event : {e : Event} {h : History} → ¬ (_≡_ {A = History} (e ∷ h) [])
+some-event none = let z : _≡_ {A = ℕ} 0 1 = cc in omega arith
 
-  -- A since row's truth says whether the time lies in its runs; before any event it is no and there are none.
+-- A truth that says what is taken of a formula says whether the time is inside or outside, where inside tells the formula.
+taken-in : (inside : Bool) (φ : Formula) (h : History) (truth : Bool) (In? : Type 0)
+    → T truth ↔ Holds (taken Formula.negation inside φ) h
+    → In? ↔ Holds φ h
+    → T truth ↔ InOrOut inside In?
+unfolding Holds
+taken-in true φ h truth In? says means = (λ yes. means .1 (says .0 yes), λ is. says .1 (means .0 is))
+taken-in false φ h truth In? says means =
+    (λ yes is. says .0 yes (means .0 is), λ outside. says .1 (λ holds. outside (means .1 holds)))
+
+module _ (table : List ℕ) (row : ℕ) (columns : Stretch) where
+  abbrev rowFormula : Formula
+  rowFormula = taken Formula.negation (columns .inside) (sinceOf (formulaOf table) (numbersAt table row) columns)
+
+  -- At an event the row's truth says whether the time lies in its runs.
   true-in-runs : (h : History) (truth : Bool) (S : List Span)
-      → Says h truth sinceFormula
-      → RowRuns table row keep feed h (lastTime h) S
-      → T truth ↔ In (lastTime h) S
-  unfolding In
-  true-in-runs [] truth S says runs =
-      rw (says, spanned-none table row 0 (stretch keep feed) S runs) (λ none. none, λ none. none)
-  true-in-runs (e ∷ h) truth S says runs =
-      let means =
-      runs-tell (formulaOf table (named keep (numbersAt table row))) (formulaOf table (named feed (numbersAt table row)))
-      (numbersAt table row .a) (endOf (numbersAt table row .b)) (e ∷ h) S runs
-      in
-      (λ yes. means .1 (says .0 yes), λ inside. says .1 (means .0 inside))
+      → ¬ (h ≡ [])
+      → Says h truth rowFormula
+      → RowRuns table row columns h (lastTime h) S
+      → T truth ↔ InOrOut (columns .inside) (In (lastTime h) S)
+  true-in-runs [] truth S some says runs = absurd (some refl)
+  true-in-runs (e ∷ h) truth S some says runs =
+      taken-in (columns .inside) (sinceOf (formulaOf table) (numbersAt table row) columns) (e ∷ h) truth (In (e .time) S) says
+      (runs-tell (keptBy Formula.truth (formulaOf table) (numbersAt table row) (columns .keep))
+      (fedBy Formula.negation (formulaOf table) (numbersAt table row) columns) (numbersAt table row .a) (endOf (numbersAt table row .b)) (e ∷ h) S
+      runs)
+
+  unsaid : (h : History) (truth : Bool) (φ : Formula) → Says h truth φ → h ≡ [] → truth ≡ false
+  unsaid [] truth φ says none = says
+  unsaid (e ∷ h) truth φ says none = absurd (some-event none)
 
   module _ (h : History) (s : State) (inv : Invariant table h (lastTime h) s) (known : row < rowsOf table)
-      (since : ruleOf (numbersAt table row) ≡ stretch keep feed) where
-    since-made : formulaOf table row ≡ sinceFormula
-    since-made = passed-formula table (rowsOf table) (needOf table) row (passes inv) known ∙ rw since
+      (says : ruleOf (numbersAt table row) ≡ stretch columns) where
+    row-made : formulaOf table row ≡ rowFormula
+    row-made = passed-formula table (rowsOf table) (needOf table) row (passes inv) known ∙ rw says
 
-    row-holds : HoldsRuns table row keep feed h (lastTime h) s
+    row-holds : HoldsRuns table row columns h (lastTime h) s
     row-holds =
-        let runs : RowRuns table row keep feed h (lastTime h) (inv .follows row known .spans) =
-        rw since at (inv .follows row known .spanned)
-        in
+        let runs : RowRuns table row columns h (lastTime h) (inv .follows row known .spans) = rw says at (inv .follows row known .spanned) in
         record {
           timed = inv .time;
           spans = inv .follows row known .spans;
           runs = runs;
           laid = inv .follows row known .laid;
           true-in =
-              true-in-runs h (truthAt (s .found .truths) row) (inv .follows row known .spans) (rw since-made at (inv .follows row known .says)) runs;
+              λ some. true-in-runs h (truthAt (s .found .truths) row) (inv .follows row known .spans) some
+              (rw row-made at (inv .follows row known .says)) runs;
+          not-yet = unsaid h (truthAt (s .found .truths) row) (formulaOf table row) (inv .follows row known .says);
         }
 
 pub spans-are-the-runs : SpansAreTheRuns
-spans-are-the-runs table store starts calls row keep feed known since =
-    row-holds table row keep feed (history calls) (state table store calls) (stream-kept table store starts calls) known since
+spans-are-the-runs table store starts calls row columns known says =
+    row-holds table row columns (history calls) (state table store calls) (stream-kept table store starts calls) known says

@@ -10,10 +10,10 @@ use native.Mathlib.Omega.{arith}
 use borrow.Author.Tests.{le-leb}
 use lib.ListN.{length, take, drop, replicate, length-replicate}
 use lib.Seq.{length-take-le, take-take, take-add, take-at, drop-at}
-use Rattle.rules.specs.Refusals.{Refused}
+use Rattle.refusals.specs.Refusals.{Refused}
 use Rattle.rules.specs.Rows.{rowsOf, numbersAt}
 use Rattle.rules.specs.Stretches.{width, offset, needOf}
-use Rattle.rules.specs.Table.{Said, passed, refusedBy}
+use Rattle.rules.specs.Table.{CheckReply, passed, refusedBy}
 use Rattle.rules.proofs.StretchesLaws.{stretch-before}
 use Rattle.monitor.specs.declared.record.Record.{Record}
 use Rattle.monitor.specs.Record.{stretchAt}
@@ -87,11 +87,11 @@ module _ (setup : Setup) (store other : List ℕ) (found : Record) (c : Call) (a
   abbrev m′ : Moment
   m′ = momentOf setup other found c
 
-  same-spans : (row : ℕ) (truths : List Bool) → row < rowsOf (setup .table) → spansAfter m row truths ≡ spansAfter m′ row truths
+  same-spans : (row : ℕ) (truths : List ℕ) → row < rowsOf (setup .table) → spansAfter m row truths ≡ spansAfter m′ row truths
   same-spans row truths lower =
       spans-same (setup .table) other store found time (maskOf c) row truths (same-stretch (setup .table) store other alike row lower)
 
-  same-truth : (row : ℕ) (truths : List Bool) → row < rowsOf (setup .table) → truthOf m row truths ≡ truthOf m′ row truths
+  same-truth : (row : ℕ) (truths : List ℕ) → row < rowsOf (setup .table) → truthOf m row truths ≡ truthOf m′ row truths
   same-truth row truths lower =
       truth-same (setup .table) other store found time (maskOf c) row truths (same-stretch (setup .table) store other alike row lower)
 
@@ -137,7 +137,7 @@ module _ (setup : Setup) (store other : List ℕ) (found : Record) (c : Call) (a
 
 -- A start looks only at the size.
 module _ (table store other : List ℕ) (alike : SameNeeded table store other) where
-  other-said : {said : Said} → readyOf table (length store) ≡ said → readyOf table (length other) ≡ said
+  other-said : {said : CheckReply} → readyOf table (length store) ≡ said → readyOf table (length other) ≡ said
   other-said e = sym (same-ready table store other alike) ∙ e
 
   good-alike : readyOf table (length store) ≡ passed (rowsOf table) (needOf table) → BegunAlike table store other

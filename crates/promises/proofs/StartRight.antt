@@ -17,25 +17,28 @@ use Rattle.rules.specs.Rows.{rowsOf, numbersAt, ruleOf}
 use Rattle.rules.specs.Stretches.{width, offset, needOf}
 use Rattle.rules.proofs.StretchesLaws.{stretch-before}
 use Rattle.spans.specs.Layout.{wordsOf, packed, Laid}
-use Rattle.monitor.specs.Record.{heldAt, stretchAt, nothingSeen}
+use Rattle.monitor.specs.Record.{truthAt, heldAt, stretchAt, nothingSeen}
 use Rattle.monitor.specs.Start.{startOf}
 use Rattle.promises.specs.Stream.{State, Starts, started}
-use Rattle.promises.specs.Spans.{NamedHolds}
+use Rattle.promises.specs.Spans.{KeeperHolds, FeederHolds}
 use Rattle.promises.proofs.Invariant.{Spanned, Invariant}
 use Rattle.promises.specs.Conditions.{Ready, RecordRight}
 use Rattle.promises.proofs.TableRefusals.{start-passes, start-decided}
 use Rattle.promises.proofs.Refusing.{refused-exactly}
 
--- Nothing but 0 is read from zeros, and false from a list of it.
-same-entry : {A : Type 0} (n row : ℕ) (a : A) → getD (replicate n a) row a ≡ a
-same-entry n row a =
-    ⊎-elim
-    (λ past. List·getD-eq-default (replicate n a) a (rw (length-replicate n a) past))
-    (λ inside. getD-replicate n row a a inside)
-    (le-or-lt n row)
-
 abbrev zeros : ℕ → List ℕ
 zeros n = replicate n 0
+
+-- Nothing but 0 is read from zeros, and so no truth.
+zero-at : (n row : ℕ) → getD (zeros n) row 0 ≡ 0
+zero-at n row =
+    ⊎-elim
+    (λ past. List·getD-eq-default (zeros n) 0 (rw (length-replicate {A = ℕ} n 0) past))
+    (λ inside. getD-replicate {A = ℕ} n row 0 0 inside)
+    (le-or-lt n row)
+
+false-at : (n row : ℕ) → truthAt (zeros n) row ≡ false
+false-at n row = rw (zero-at n row) refl
 
 -- A part of zeros is zeros.
 zeros-part : (from size n : ℕ) (rest : List ℕ) → from + size ≤ n → take size (drop from (zeros n ++ rest)) ≡ zeros size
@@ -80,7 +83,7 @@ module _ (table store : List ℕ) (starts : Starts table store) where
   -- No runs before the first event.
   none-spanned : (row : ℕ) (rule : Rule) → Spanned table row [] 0 rule []
   none-spanned row (plain says) = refl
-  none-spanned row (stretch keep feed) = runs-none (NamedHolds table row keep) (NamedHolds table row feed) _ _ 0
+  none-spanned row (stretch columns) = runs-none (KeeperHolds table row columns) (FeederHolds table row columns) _ _ 0
 
   stretch-fresh : (row : ℕ) → row < rowsOf table → stretchAt table (fresh .store) row ≡ packed (width (numbersAt table row)) []
   unfolding stretchAt packed wordsOf
@@ -91,19 +94,21 @@ module _ (table store : List ℕ) (starts : Starts table store) where
 
   row-laid : (row : ℕ) → row < rowsOf table → Laid (width (numbersAt table row)) (stretchAt table (fresh .store) row) (heldAt (fresh .found) row) []
   unfolding nothingSeen
-  row-laid row known = record { written = stretch-fresh row known; counted = same-entry {A = ℕ} rowLimit row 0 }
+  row-laid row known = record { written = stretch-fresh row known; counted = zero-at rowLimit row }
 
   fresh-sound : RecordRight table (fresh .store) (fresh .found)
   unfolding nothingSeen
   fresh-sound =
       record {
         rows = refl;
-        past = λ row past inside. same-entry rowLimit row false;
-        others = λ row inside other. same-entry {A = ℕ} rowLimit row 0;
-        within = λ row inside since. rw (same-entry {A = ℕ} rowLimit row 0) (omega arith);
+        past = λ row past inside. false-at rowLimit row;
+        others = λ row inside other. zero-at rowLimit row;
+        within = λ row inside since. rw (zero-at rowLimit row) (omega arith);
         unseen-time = λ unseen. refl;
-        unseen-rows = λ unseen row inside. (same-entry rowLimit row false, same-entry {A = ℕ} rowLimit row 0);
+        unseen-rows = λ unseen row inside. (false-at rowLimit row, zero-at rowLimit row);
         limit = omega arith;
+        seen-byte = omega arith;
+        truth-bytes = λ row inside. omega (arith, zero-at rowLimit row);
         stretches = λ row known since. record { spans = []; laid = row-laid row known; sound = none-sound _ _ _ _ };
       }
 
@@ -116,14 +121,14 @@ module _ (table store : List ℕ) (starts : Starts table store) where
         time = refl;
         seen = refl;
         ready = rw fresh-length (start-ready table store starts);
-        sized = record { truths = length-replicate rowLimit false; counts = length-replicate {A = ℕ} rowLimit 0 };
+        sized = record { truths = length-replicate {A = ℕ} rowLimit 0; counts = length-replicate {A = ℕ} rowLimit 0 };
         sound = fresh-sound;
         follows = λ row known.
             record {
               spans = [];
               spanned = none-spanned row (ruleOf (numbersAt table row));
               laid = row-laid row known;
-              says = same-entry rowLimit row false;
+              says = false-at rowLimit row;
             };
       }
 

@@ -7,7 +7,7 @@ use lib.Dec.{leb}
 use Rattle.meaning.specs.History.{History}
 use Rattle.meaning.proofs.SpansLaws.{by-leb}
 use Rattle.meaning.proofs.Tells.{Tells, tells-leb, tells-and, tells-same}
-use Rattle.monitor.specs.Record.{timeLimit}
+use Rattle.times.specs.Times.{timeLimit}
 use Rattle.monitor.specs.Step.{Call, timeOf}
 use Rattle.promises.specs.Stream.{State, next, after, started, Keeps, keeps?, kept, clock, OneMore}
 use Rattle.promises.proofs.Deciding.{told-true, told-false}

@@ -4,36 +4,38 @@ use mathlib.Core.Bool.{false}
 use mathlib.Core.List.{List, []}
 use mathlib.Core.Logic.{_⊎_, inl, inr, ⊎-elim}
 use mathlib.Core.Path.{_≡_, refl}
-use Prim.Native.Nat.{ℕ, zero, suc, _+_, _≤_, _<_}
+use Prim.Native.Nat.{ℕ, zero, suc, _+_, _%_, _≤_, _<_}
 use native.Mathlib.Omega.{arith}
-use lib.ListN.{length, getD}
+use lib.ListN.{length, getD, List·getD-eq-default}
 use Rattle.meaning.specs.Interval.{endOf, _+End_}
 use Rattle.meaning.specs.Spans.{Span}
 use Rattle.meaning.specs.Sound.{lengthOf}
 use Rattle.meaning.proofs.SoundLaws.{none-sound}
 use Rattle.meaning.specs.Figure.{figure}
 use Rattle.meaning.proofs.Tells.{Tells, tells-eqb, tells-same, tells-decided}
-use Rattle.rules.specs.Kinds.{rowX, rowY, stretch, kindAt, hasStretch}
-use Rattle.rules.specs.Rows.{rowsOf, numbersAt, ruleOf}
+use Rattle.rules.specs.Limits.{rowNumbers}
+use Rattle.rules.specs.Kinds.{stretch, xSinceY, kindAt, hasStretch}
+use Rattle.rules.specs.Rows.{rowsOf, fieldAt, numbersAt, ruleOf}
 use Rattle.rules.specs.Stretches.{spansOf, width}
 use Rattle.rules.specs.declared.numbers.Numbers.{Numbers}
 use Rattle.rules.proofs.PassedLaws.{InRange}
 use Rattle.rules.proofs.StretchesLaws.{spans-by-column, stretch-before}
 use Rattle.monitor.specs.declared.record.Record.{Record}
 use Rattle.spans.specs.Layout.{wordsOf, packed}
-use Rattle.monitor.specs.Record.{timeLimit, heldAt, stretchAt}
-use Rattle.monitor.specs.Soundness.{soundRow?}
+use Rattle.times.specs.Times.{timeLimit}
+use Rattle.monitor.specs.Record.{heldAt, stretchAt}
+use Rattle.monitor.specs.Soundness.{soundLimits?}
 use Rattle.spans.proofs.LayoutLaws.{Stored}
 use Rattle.spans.proofs.SoundTold.{sound-stored, stretch-told}
 use Rattle.monitor.proofs.EventLaws.{length-stretch}
-use Rattle.promises.specs.Conditions.{LimitsRight, Ready, IsSince, RowSound, StretchRight}
+use Rattle.promises.specs.Conditions.{LengthRight, LimitsRight, Ready, IsSince, RowSound, StretchRight}
 use Rattle.promises.proofs.RangeLaws.{latest-storable}
 
 -- "each since row owns its own stretch", and no other row.
 pub since-or-other : (n : Numbers) → IsSince n ⊎ (¬ IsSince n)
 since-or-other n = tells-decided (tells-eqb (n .kind) _)
 
-pub since-rule : (n : Numbers) → IsSince n → ruleOf n ≡ stretch rowX rowY
+pub since-rule : (n : Numbers) → IsSince n → ruleOf n ≡ stretch xSinceY
 unfolding kindAt
 since-rule n since = rw since
 
@@ -60,8 +62,16 @@ other-spans n other = rw (spans-by-column (ruleOf n) n, other-rule n other)
 pub in-range-of : {a b : ℕ} → LimitsRight a b → InRange a b
 in-range-of limits = record { least = limits .low; most = ⊎-elim inr inl (limits .high) }
 
+-- Past its rows a table of whole rows has no number, so no since row.
+pub past-other : (table : List ℕ) (row : ℕ) → LengthRight table → rowsOf table ≤ row → ¬ IsSince (numbersAt table row)
+unfolding numbersAt
+past-other table row right past since =
+    let whole : length table % rowNumbers ≡ 0 = right .whole in
+    let none : fieldAt table row 0 ≡ 0 = List·getD-eq-default table 0 (omega arith) in
+    omega arith
+
 -- Sound spans can be stored.
-pub row-stored : (n : Numbers) (now : ℕ) (S : List Span) → now ≤ timeLimit → InRange (n .a) (n .b) → RowSound n now S → Stored S
+pub row-stored : (n : Numbers) (now : ℕ) (S : List Span) → now ≤ timeLimit → InRange (n .a) (n .b) → RowSound n now now S → Stored S
 row-stored n now S within range sound =
     sound-stored now (now + n .a) (now +End endOf (n .b)) (lengthOf (n .a) (endOf (n .b))) S (latest-storable now (n .a) (n .b) within range) sound
 
@@ -72,8 +82,7 @@ module _ (table store : List ℕ) (ready : Ready table (length store)) (found : 
   pub row-stretch-told : found .time ≤ timeLimit
       → (row : ℕ)
       → row < rowsOf table
-      → Tells (soundRow? table store found row) (StretchRight table store found row)
-  unfolding soundRow?
+      → Tells (soundLimits? (stretchAt table store row) (heldAt found row) (found .time) (found .time) (numbersAt table row)) (StretchRight table store found row)
   row-stretch-told early row lower =
       let n = numbersAt table row in
       let now = found .time in

@@ -10,11 +10,11 @@ use borrow.Author.Tests.{le-leb, lt-leb}
 use lib.ListN.{length}
 use Rattle.meaning.proofs.SpansLaws.{le-or-lt}
 use Rattle.meaning.proofs.Tells.{tells-passed, tells-decided}
-use Rattle.rules.specs.Refusals.{Refused, refused}
+use Rattle.refusals.specs.Refusals.{Refused, refused}
 use Rattle.rules.specs.Rows.{rowsOf, numbersAt}
 use Rattle.rules.specs.Stretches.{offset, needOf}
 use Rattle.rules.specs.Table.{firstFault, passed, refusedBy, checkOf}
-use Rattle.rules.specs.declared.refusal.Refusal.the-variants.{Length, Row, Limits, Store}
+use Rattle.refusals.specs.declared.refusal.Refusal.the-variants.{Length, Row, Limits, Store}
 use Rattle.rules.proofs.TableLaws.{fault-row, fault-limits, fault-none, first-at, whole-rows-told, SoFar, refused-at, passed-at, refused-length}
 use Rattle.rules.specs.declared.numbers.Numbers.{Numbers}
 use Rattle.monitor.specs.Ready.{readyOf}

@@ -1,17 +1,17 @@
 -- A refused line makes no call and a refused frame leaves the state, so the reading can be left out.
 use mathlib.Core.Bool.{false}
 use mathlib.Core.Path.{_≡_, refl, ap}
-use Rattle.lines.specs.Read.{Said, end, numbers, refusal}
+use Rattle.lines.specs.Read.{LineReply, atEnd, goodLine, badLine}
 use Rattle.promises.specs.Stream.{State}
 use Rattle.promises.specs.TextAsIfNotMade.{Reading, read, framed, answerTo, leftBy, unrefused, readings, TextAsIfNotMade}
 use Rattle.promises.proofs.LeftOut.{left-out}
 use Rattle.promises.proofs.AsIfNotMade.{refused-leaves}
 use Rattle.promises.proofs.Reading.{place-moves}
 
-refused-left : (s : State) (r : Reading) (said : Said) → unrefused (answerTo s r said) ≡ false → leftBy s r said ≡ s
-refused-left s r end e = refl
-refused-left s r (numbers given) e = refused-leaves s (framed r given) e
-refused-left s r (refusal fault) e = refl
+refused-left : (s : State) (r : Reading) (said : LineReply) → unrefused (answerTo s r said) ≡ false → leftBy s r said ≡ s
+refused-left s r atEnd e = refl
+refused-left s r (goodLine given) e = refused-leaves s (framed r given) e
+refused-left s r (badLine fault) e = refl
 
 pub text-as-if-not-made : TextAsIfNotMade
 text-as-if-not-made =

@@ -6,14 +6,14 @@ use Prim.Native.Nat.{ℕ, zero, suc, _+_, _≤_, _<_}
 use native.Mathlib.Omega.{arith}
 use lib.ListN.{length}
 use Rattle.meaning.proofs.SpansLaws.{le-or-lt}
-use Rattle.lines.specs.Read.{Said, end, numbers, refusal}
+use Rattle.lines.specs.Read.{LineReply, atEnd, goodLine, badLine}
 use Rattle.lines.specs.Frame.{readFrame}
 use Rattle.promises.specs.Reading.{Past, first, none}
 use Rattle.promises.specs.TextRead.{placeAfter, untilEnd, linesFrom, ReadWhole}
 use Rattle.promises.proofs.Reading.{read-refused-exactly, place-moves}
 
 module _ (text : List ℕ) (place : ℕ) where
-  said-end : length text ≤ place → readFrame text place .said ≡ end
+  said-end : length text ≤ place → readFrame text place .said ≡ atEnd
   said-end past = read-refused-exactly .frame .ends text place .1 past
 
   stays : length text ≤ place → readFrame text place .next ≡ place
@@ -26,10 +26,10 @@ module _ (text : List ℕ) (place : ℕ) where
   moves-on : place < length text → place < readFrame text place .next
   moves-on before = go (readFrame text place .said) refl
     where
-      go : (said : Said) → readFrame text place .said ≡ said → place < readFrame text place .next
-      go end e = let past = read-refused-exactly .frame .ends text place .0 e in absurd (omega arith)
-      go (numbers given) e = let moved = place-moves text place .good given e in omega arith
-      go (refusal fault) e = past-on (readFrame text place .next) before (place-moves text place .refused fault e)
+      go : (said : LineReply) → readFrame text place .said ≡ said → place < readFrame text place .next
+      go atEnd e = let past = read-refused-exactly .frame .ends text place .0 e in absurd (omega arith)
+      go (goodLine given) e = let moved = place-moves text place .good given e in omega arith
+      go (badLine fault) e = past-on (readFrame text place .next) before (place-moves text place .refused fault e)
 
   -- With enough readings for what is left of the text, so many less one are enough from the next place.
   enough-on : (readings : ℕ) → length text ≤ place + suc readings → length text ≤ readFrame text place .next + readings
@@ -48,7 +48,7 @@ no-lines : (text : List ℕ) (place readings : ℕ) → length text ≤ place �
 unfolding linesFrom
 no-lines text place zero past = refl
 no-lines text place (suc readings) past =
-    ap (λ (said : Said). untilEnd said (linesFrom text (readFrame text place .next) readings)) (said-end text place past)
+    ap (λ (said : LineReply). untilEnd said (linesFrom text (readFrame text place .next) readings)) (said-end text place past)
 
 no-more-lines : (text : List ℕ) (more place readings : ℕ)
     → length text ≤ place + readings

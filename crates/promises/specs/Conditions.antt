@@ -16,7 +16,8 @@ use Rattle.rules.specs.Stretches.{width, needOf}
 use Rattle.rules.specs.declared.numbers.Numbers.{Numbers}
 use Rattle.monitor.specs.declared.record.Record.{Record}
 use Rattle.spans.specs.Layout.{Laid}
-use Rattle.monitor.specs.Record.{timeLimit, truthAt, heldAt, stretchAt}
+use Rattle.times.specs.Times.{timeLimit}
+use Rattle.monitor.specs.Record.{wasSeen, truthAt, heldAt, stretchAt, clockOf, eventTime}
 
 -- 1: "table length not a multiple of 5, or rows not 1 to 64" is that this fails.
 pub record LengthRight (table : List ℕ) : Type 0 where
@@ -57,14 +58,15 @@ pub record Ready (table : List ℕ) (size : ℕ) : Type 0 where
 abbrev pub IsSince : Numbers → Type 0
 IsSince n = n .kind ≡ 6
 
--- "in each stretch: first ≤ last; ..", with t the record's time; "unused words are 0".
-abbrev pub RowSound : Numbers → ℕ → List Span → Type 0
-RowSound n t S = SoundSpans t (t + n .a) (t +End endOf (n .b)) (lengthOf (n .a) (endOf (n .b))) S
+-- "in each stretch: first ≤ last; each first is at least t; .. each last is at most t+b": t is the clock for the firsts, the last event's time for the
+-- latest first and last.
+abbrev pub RowSound : Numbers → (clock event : ℕ) → List Span → Type 0
+RowSound n clock event S = SoundSpans clock (event + n .a) (event +End endOf (n .b)) (lengthOf (n .a) (endOf (n .b))) S
 
 pub record StretchRight (table store : List ℕ) (found : Record) (row : ℕ) : Type 0 where
   pub spans : List Span
   pub laid : Laid (width (numbersAt table row)) (stretchAt table store row) (heldAt found row) spans
-  pub sound : RowSound (numbersAt table row) (found .time) spans
+  pub sound : RowSound (numbersAt table row) (clockOf found) (eventTime found) spans
 
 -- 7: "record not sound" is that this fails. "A record is sound when all of these hold".
 pub record RecordRight (table store : List ℕ) (found : Record) : Type 0 where
@@ -78,12 +80,15 @@ pub record RecordRight (table store : List ℕ) (found : Record) : Type 0 where
       → IsSince (numbersAt table row)
       → getD (found .counts) row 0 ≤ figure (numbersAt table row .a) (endOf (numbersAt table row .b))
   -- "if no event was seen, time, truths and span counts are 0 or false;"
-  pub unseen-time : found .seen ≡ false → found .time ≡ 0
-  pub unseen-rows : found .seen ≡ false
+  pub unseen-time : wasSeen found ≡ false → clockOf found ≡ 0
+  pub unseen-rows : wasSeen found ≡ false
       → (row : ℕ)
       → row < rowLimit
       → (truthAt (found .truths) row ≡ false) × (getD (found .counts) row 0 ≡ 0)
   -- "time is at most 281,474,976,710,655;"
-  pub limit : found .time ≤ timeLimit
+  pub limit : clockOf found ≤ timeLimit
+  -- What tells a truth is a byte that is 0 or 1.
+  pub seen-byte : found .seen ≤ 1
+  pub truth-bytes : (row : ℕ) → row < rowLimit → getD (found .truths) row 0 ≤ 1
   -- "in each stretch: .."
   pub stretches : (row : ℕ) → row < rowsOf table → IsSince (numbersAt table row) → StretchRight table store found row

@@ -11,7 +11,10 @@ pub mod SpareWords
 pub mod SoundIsKept
 pub mod Verdicts
 pub mod LineTimes
+pub mod FrameTimes
 pub mod Need
 pub mod Spans
+pub mod OneEvent
 pub mod Room
+pub mod RefusedBetween
 pub mod OneOutcome

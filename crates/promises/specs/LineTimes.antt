@@ -6,10 +6,11 @@ use mathlib.Core.Path.{_≡_}
 use Prim.Native.Nat.{ℕ, _≤_}
 use lib.Dec.{T}
 use Rattle.meaning.specs.FrameTime.{counterOf, TrueTimes}
-use Rattle.rules.specs.Refusals.{refused}
-use Rattle.rules.specs.declared.refusal.Refusal.the-variants.{Earlier}
+use Rattle.refusals.specs.Refusals.{refused}
+use Rattle.refusals.specs.declared.refusal.Refusal.the-variants.{Earlier}
 use Rattle.monitor.specs.declared.record.Record.{Record}
-use Rattle.monitor.specs.Record.{timeLimit}
+use Rattle.times.specs.Times.{timeLimit}
+use Rattle.monitor.specs.Record.{clockOf}
 use Rattle.monitor.specs.Step.{Setup, Call, frame, Reply, refusal, stepOf}
 use Rattle.promises.specs.Stream.{State, call, next, Starts, started}
 use Rattle.promises.specs.AsIfNotMade.{judged}
@@ -22,7 +23,7 @@ replies table s (c ∷ calls) = call table s c .reply ∷ replies table (next ta
 
 unfoldable pub recordTimes : List ℕ → State → List Call → List ℕ
 recordTimes table s [] = []
-recordTimes table s (c ∷ calls) = next table s c .found .time ∷ recordTimes table (next table s c) calls
+recordTimes table s (c ∷ calls) = clockOf (next table s c .found) ∷ recordTimes table (next table s c) calls
 
 -- The same of good lines, from a start.
 abbrev pub lineReplies : List ℕ → List ℕ → List (List ℕ) → List Reply

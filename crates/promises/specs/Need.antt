@@ -6,16 +6,16 @@ use mathlib.Core.Path.{_≡_}
 use Prim.Native.Nat.{ℕ, zero, suc, _+_, _*_}
 use Rattle.meaning.specs.Interval.{endOf}
 use Rattle.meaning.specs.Figure.{figure}
-use Rattle.rules.specs.Limits.{spanWords}
-use Rattle.rules.specs.Kinds.{rowX, rowY, stretch, hasStretch}
+use Rattle.spans.specs.Layout.{spanWords}
+use Rattle.rules.specs.Kinds.{stretch, xSinceY, hasStretch}
 use Rattle.rules.specs.Rows.{rowsOf, numbersAt, ruleOf}
 use Rattle.rules.specs.Stretches.{needOf}
 use Rattle.rules.specs.declared.numbers.Numbers.{Numbers}
 use Rattle.promises.specs.Conditions.{IsSince}
 
--- A since row has a stretch, kept while x is true and fed where y is; no other row has one.
+-- A since row has a stretch, kept while x is true, fed where y is, true inside a span; no other row has one.
 pub record OwnsStretch (n : Numbers) : Type 0 where
-  pub since : IsSince n → ruleOf n ≡ stretch rowX rowY
+  pub since : IsSince n → ruleOf n ≡ stretch xSinceY
   pub other : ¬ IsSince n → hasStretch (ruleOf n) ≡ false
 
 -- What the rows below n need: "The sum over since rows, in words", two for each span.

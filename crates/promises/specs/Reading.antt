@@ -5,11 +5,11 @@ use mathlib.Core.Logic.{_↔_}
 use mathlib.Core.Path.{_≡_}
 use Prim.Native.Nat.{ℕ, _+_, _*_, _%_, _≤_, _<_}
 use lib.ListN.{length}
-use Rattle.rules.specs.Refusals.{Refused, refused}
-use Rattle.rules.specs.declared.refusal.Refusal.the-variants.{Line, Sum}
+use Rattle.refusals.specs.Refusals.{Refused, refused}
+use Rattle.refusals.specs.declared.refusal.Refusal.the-variants.{BadLine, BadSum}
 use Rattle.lines.specs.Digits.{byteAt, byte0, byte9, byteA, byteF, byteDigits, byteValues, hexAt}
 use Rattle.lines.specs.Line.{lineFeed, sumAt, digitsOf}
-use Rattle.lines.specs.Read.{end, numbers, refusal, Read}
+use Rattle.lines.specs.Read.{atEnd, goodLine, badLine, Read}
 use Rattle.lines.specs.Frame.{readFrame}
 use Rattle.lines.specs.Rule.{readRule}
 
@@ -30,8 +30,8 @@ SumRight bytes text place = sumAt text place bytes % byteValues ≡ hexAt text (
 
 -- 8: "place before the end, but no 14 digits 0-9 A-F and line feed there"; 9: "line well formed, its sum wrong".
 pub data LineRefused (bytes : ℕ) (text : List ℕ) (place : ℕ) : Refused → Type 0 where
-  eight : place < length text → ¬ WellFormed bytes text place → LineRefused bytes text place (refused Line)
-  nine : WellFormed bytes text place → ¬ SumRight bytes text place → LineRefused bytes text place (refused Sum)
+  eight : place < length text → ¬ WellFormed bytes text place → LineRefused bytes text place (refused BadLine)
+  nine : WellFormed bytes text place → ¬ SumRight bytes text place → LineRefused bytes text place (refused BadSum)
 
 -- A good line, and the numbers that it shows.
 pub record LineGood (bytes : ℕ) (shows : List ℕ → ℕ → List ℕ) (text : List ℕ) (place : ℕ) (given : List ℕ) : Type 0 where
@@ -41,9 +41,9 @@ pub record LineGood (bytes : ℕ) (shows : List ℕ → ℕ → List ℕ) (text 
 
 -- What is said of a line, if and only if.
 pub record SaidExactly (read : List ℕ → ℕ → Read) (bytes : ℕ) (shows : List ℕ → ℕ → List ℕ) : Type 0 where
-  pub ends : (text : List ℕ) (place : ℕ) → (read text place .said ≡ end) ↔ (length text ≤ place)
-  pub refuses : (text : List ℕ) (place : ℕ) (fault : Refused) → (read text place .said ≡ refusal fault) ↔ LineRefused bytes text place fault
-  pub reads : (text : List ℕ) (place : ℕ) (given : List ℕ) → (read text place .said ≡ numbers given) ↔ LineGood bytes shows text place given
+  pub ends : (text : List ℕ) (place : ℕ) → (read text place .said ≡ atEnd) ↔ (length text ≤ place)
+  pub refuses : (text : List ℕ) (place : ℕ) (fault : Refused) → (read text place .said ≡ badLine fault) ↔ LineRefused bytes text place fault
+  pub reads : (text : List ℕ) (place : ℕ) (given : List ℕ) → (read text place .said ≡ goodLine given) ↔ LineGood bytes shows text place given
 
 -- "counter (4 digits), mask (8), sum (2) of the six bytes ..: 15 bytes".
 abbrev pub dataBytes : ℕ
@@ -78,6 +78,6 @@ pub data Past (text : List ℕ) (place next : ℕ) : Type 0 where
 -- "A place at or past the end answers 'end', place unchanged. After a good line the place moves 15. After 8 or 9 it moves past the first line
 -- feed .."
 pub record PlaceMoves (text : List ℕ) (place : ℕ) : Type 0 where
-  pub ended : readFrame text place .said ≡ end → readFrame text place .next ≡ place
-  pub good : (given : List ℕ) → readFrame text place .said ≡ numbers given → readFrame text place .next ≡ place + frameBytes
-  pub refused : (fault : Refused) → readFrame text place .said ≡ refusal fault → Past text place (readFrame text place .next)
+  pub ended : readFrame text place .said ≡ atEnd → readFrame text place .next ≡ place
+  pub good : (given : List ℕ) → readFrame text place .said ≡ goodLine given → readFrame text place .next ≡ place + frameBytes
+  pub refused : (fault : Refused) → readFrame text place .said ≡ badLine fault → Past text place (readFrame text place .next)

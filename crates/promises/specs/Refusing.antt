@@ -5,13 +5,14 @@ use mathlib.Core.Option.{some}
 use mathlib.Core.Path.{_≡_}
 use Prim.Native.Nat.{ℕ, _≤_, _<_}
 use lib.ListN.{length}
-use Rattle.rules.specs.Refusals.{Refused, refused}
+use Rattle.refusals.specs.Refusals.{Refused, refused}
 use Rattle.rules.specs.Rows.{rowsOf, numbersAt}
 use Rattle.rules.specs.Stretches.{needOf}
 use Rattle.rules.specs.Table.{refusedBy, checkOf}
-use Rattle.rules.specs.declared.refusal.Refusal.the-variants.{Length, Row, Limits, Store, Earlier, Late, Record}
-use Rattle.monitor.specs.declared.record.Record as Kept
-use Rattle.monitor.specs.Record.{timeLimit, nothingSeen}
+use Rattle.refusals.specs.declared.refusal.Refusal.the-variants.{Length, Row, Limits, Store, Earlier, Late, Unsound}
+use Rattle.monitor.specs.declared.record.Record.{Record}
+use Rattle.times.specs.Times.{timeLimit}
+use Rattle.monitor.specs.Record.{nothingSeen, clockOf}
 use Rattle.monitor.specs.Start.{startOf}
 use Rattle.monitor.specs.Step.{Setup, Call, timeOf, refusal, stepOf, notAt, frameTimeOf}
 use Rattle.promises.specs.Conditions.{LengthRight, RowRight, LimitsRight, RowsRight, TableRight, Ready, RecordRight}
@@ -38,33 +39,33 @@ pub data StartRefused (table : List ℕ) (size : ℕ) : Refused → Type 0 where
   table : {fault : Refused} → TableRefused table fault → StartRefused table size fault
   four : TableRight table → size < needOf table → StartRefused table size (refused Store)
 
-pub data CallRefused (setup : Setup) (store : List ℕ) (found : Kept.Record) (c : Call) : Refused → Type 0 where
+pub data CallRefused (setup : Setup) (store : List ℕ) (found : Record) (c : Call) : Refused → Type 0 where
   start : {fault : Refused} → StartRefused (setup .table) (length store) fault → CallRefused setup store found c fault
   seven : Ready (setup .table) (length store)
       → ¬ RecordRight (setup .table) store found
-      → CallRefused setup store found c (refused Record)
+      → CallRefused setup store found c (refused Unsound)
   six : Ready (setup .table) (length store)
       → RecordRight (setup .table) store found
-      → timeLimit < timeOf (found .time) c
+      → timeLimit < timeOf (clockOf found) c
       → CallRefused setup store found c (refused Late)
   five : Ready (setup .table) (length store)
       → RecordRight (setup .table) store found
-      → timeOf (found .time) c ≤ timeLimit
-      → timeOf (found .time) c < found .time
+      → timeOf (clockOf found) c ≤ timeLimit
+      → timeOf (clockOf found) c < clockOf found
       → CallRefused setup store found c (refused Earlier)
 
 -- Refused with a number and values if and only if the table of refusals says so: for the check, a start, an event or a frame, the time of a frame.
 pub record RefusedExactly : Type 0 where
   pub check : (table : List ℕ) (fault : Refused) → (checkOf table ≡ refusedBy fault) ↔ TableRefused table fault
   pub start : (table store : List ℕ) (fault : Refused) → (startOf table store .refusal ≡ some fault) ↔ StartRefused table (length store) fault
-  pub call : (setup : Setup) (store : List ℕ) (found : Kept.Record) (c : Call) (fault : Refused)
+  pub call : (setup : Setup) (store : List ℕ) (found : Record) (c : Call) (fault : Refused)
       → (stepOf setup store found c .reply ≡ refusal fault) ↔ CallRefused setup store found c fault
   pub time : (last counter : ℕ) (fault : Refused)
       → (frameTimeOf last counter ≡ notAt fault) ↔ ((timeLimit < last) × (fault ≡ refused Late))
 
 -- "refusal gives back the record given and leaves the store"; "A refused start gives an all-zero record, row count 0, store untouched."
 pub record RefusalChangesNothing : Type 0 where
-  pub call : (setup : Setup) (store : List ℕ) (found : Kept.Record) (c : Call) (fault : Refused)
+  pub call : (setup : Setup) (store : List ℕ) (found : Record) (c : Call) (fault : Refused)
       → stepOf setup store found c .reply ≡ refusal fault
       → (stepOf setup store found c .left ≡ found) × (stepOf setup store found c .store ≡ store)
   pub start : (table store : List ℕ) (fault : Refused)

@@ -9,11 +9,12 @@ use Rattle.meaning.specs.Formula.{truth, bit, Holds}
 use Rattle.meaning.specs.Spans.{Span}
 use Rattle.meaning.specs.Runs.{Runs}
 use Rattle.meaning.specs.Figure.{figure}
-use Rattle.rules.specs.Kinds.{Source, stretch}
-use Rattle.rules.specs.Refusals.{refused}
+use Rattle.rules.specs.Kinds.{stretch}
+use Rattle.refusals.specs.Refusals.{refused}
 use Rattle.rules.specs.Rows.{rowsOf, numbersAt, ruleOf}
 use Rattle.rules.specs.Stretches.{spansOf, needOf}
-use Rattle.rules.specs.declared.refusal.Refusal.the-variants.{Store, Record}
+use Rattle.rules.specs.declared.stretch.Stretch.{Stretch}
+use Rattle.refusals.specs.declared.refusal.Refusal.the-variants.{Store, Unsound}
 use Rattle.monitor.specs.Step.{Call, event, refusal}
 use Rattle.promises.specs.Stream.{Starts, state, history, clock, outcome}
 use Rattle.promises.specs.Conditions.{LimitsRight, IsSince}
@@ -22,11 +23,11 @@ use Rattle.promises.specs.Spans.{RowRuns}
 -- No call of a stream answers 4 or 7; and the runs, whatever room there is, are at most the figure.
 pub record NeverShort (table store : List ℕ) (calls : List Call) : Type 0 where
   pub room : (c : Call) → ¬ (outcome table store calls c .reply ≡ refusal (refused Store))
-  pub sound : (c : Call) → ¬ (outcome table store calls c .reply ≡ refusal (refused Record))
-  pub enough : (row : ℕ) (keep feed : Source) (S : List Span)
+  pub sound : (c : Call) → ¬ (outcome table store calls c .reply ≡ refusal (refused Unsound))
+  pub enough : (row : ℕ) (columns : Stretch) (S : List Span)
       → row < rowsOf table
-      → ruleOf (numbersAt table row) ≡ stretch keep feed
-      → RowRuns table row keep feed (history calls) (clock calls) S
+      → ruleOf (numbersAt table row) ≡ stretch columns
+      → RowRuns table row columns (history calls) (clock calls) S
       → length S ≤ spansOf (numbersAt table row)
 
 abbrev pub NeverShortOfRoom : Type 0

@@ -8,7 +8,7 @@ use Prim.Native.Nat.{ℕ, _≤_}
 use lib.Dec.{leb}
 use Rattle.meaning.specs.History.{Event, History, lastTime}
 use Rattle.monitor.specs.declared.record.Record.{Record}
-use Rattle.monitor.specs.Record.{timeLimit}
+use Rattle.times.specs.Times.{timeLimit}
 use Rattle.monitor.specs.Start.{startOf}
 use Rattle.monitor.specs.Step.{setupOf, Call, timeOf, maskOf, Outcome, stepOf}
 

@@ -5,10 +5,10 @@ use mathlib.Core.Bool.{Bool, true, false}
 use mathlib.Core.List.{List}
 use mathlib.Core.Path.{_≡_}
 use Prim.Native.Nat.{ℕ, _+_}
-use Rattle.rules.specs.Refusals.{Refused}
+use Rattle.refusals.specs.Refusals.{Refused}
 use Rattle.monitor.specs.Step.{Setup, frameOf, Reply, refusal}
 use Rattle.lines.specs.Read as line
-use Rattle.lines.specs.Read.{Said, Read}
+use Rattle.lines.specs.Read.{LineReply, Read}
 use Rattle.lines.specs.Frame.{readFrame}
 use Rattle.promises.specs.Stream.{State}
 use Rattle.promises.specs.LeftOut.{Machine, Unchanged}
@@ -30,48 +30,48 @@ framed r given = record { setup = r .setup; size = r .size; made = frameOf given
 
 -- "end", or a verdict or a refusal: of the line, or else of its frame.
 pub data Answer : Type 0 where
-  ended : Answer
+  endAnswered : Answer
   replied : Reply → Answer
 
-abbrev pub answerTo : State → Reading → Said → Answer
-answerTo s r line.end = ended
-answerTo s r (line.numbers given) = replied (attempt s (framed r given) .reply)
-answerTo s r (line.refusal fault) = replied (refusal fault)
+abbrev pub answerTo : State → Reading → LineReply → Answer
+answerTo s r line.atEnd = endAnswered
+answerTo s r (line.goodLine given) = replied (attempt s (framed r given) .reply)
+answerTo s r (line.badLine fault) = replied (refusal fault)
 
 -- Only a good line makes a call.
-abbrev pub leftBy : State → Reading → Said → State
-leftBy s r line.end = s
-leftBy s r (line.numbers given) = leaves s (framed r given)
-leftBy s r (line.refusal fault) = s
+abbrev pub leftBy : State → Reading → LineReply → State
+leftBy s r line.atEnd = s
+leftBy s r (line.goodLine given) = leaves s (framed r given)
+leftBy s r (line.badLine fault) = s
 
 abbrev pub answer : State → Reading → Answer
 answer s r = answerTo s r (read r .said)
 
-abbrev pub left : State → Reading → State
-left s r = leftBy s r (read r .said)
+abbrev pub leftAfter : State → Reading → State
+leftAfter s r = leftBy s r (read r .said)
 
 abbrev pub unrefused : Answer → Bool
-unrefused ended = true
+unrefused endAnswered = true
 unrefused (replied reply) = judged reply
 
 abbrev pub readings : Machine State Reading Answer
-readings = record { answer = answer; left = left; unrefused = unrefused }
+readings = record { answer = answer; left = leftAfter; unrefused = unrefused }
 
 -- A refused line is answered with its number, moves the place past its first line feed or to the end, and does nothing else.
 pub record LineNotMade (s : State) (r : Reading) (fault : Refused) : Type 0 where
   pub number : answer s r ≡ replied (refusal fault)
   pub place : Past (r .text) (r .place) (read r .next)
-  pub state : left s r ≡ s
+  pub state : leftAfter s r ≡ s
 
 -- A refused frame moves the place past its line, and does nothing else.
 pub record FrameNotMade (s : State) (r : Reading) : Type 0 where
   pub place : read r .next ≡ r .place + frameBytes
-  pub state : left s r ≡ s
+  pub state : leftAfter s r ≡ s
 
 pub record TextAsIfNotMade : Type 0 where
-  pub refused-line : (s : State) (r : Reading) (fault : Refused) → read r .said ≡ line.refusal fault → LineNotMade s r fault
+  pub refused-line : (s : State) (r : Reading) (fault : Refused) → read r .said ≡ line.badLine fault → LineNotMade s r fault
   pub refused-frame : (s : State) (r : Reading) (given : List ℕ)
-      → read r .said ≡ line.numbers given
+      → read r .said ≡ line.goodLine given
       → unrefused (answer s r) ≡ false
       → FrameNotMade s r
   -- Leaving out those that are refused, the others at their places, leaves every other answer, the record and every word the same.

@@ -9,11 +9,12 @@ use lib.Dec.{T}
 use lib.ListN.{length}
 use Rattle.meaning.specs.Formula.{Formula, Holds}
 use Rattle.meaning.specs.Numbered.{HoldsAt, numbered}
-use Rattle.rules.specs.Refusals.{refused}
+use Rattle.refusals.specs.Refusals.{refused}
 use Rattle.rules.specs.Rows.{rowsOf}
 use Rattle.rules.specs.RowFormula.{formulaOf}
-use Rattle.rules.specs.declared.refusal.Refusal.the-variants.{Earlier, Late}
-use Rattle.monitor.specs.Record.{timeLimit, truthAt}
+use Rattle.refusals.specs.declared.refusal.Refusal.the-variants.{Earlier, Late}
+use Rattle.times.specs.Times.{timeLimit}
+use Rattle.monitor.specs.Record.{truthAt}
 use Rattle.monitor.specs.Step.{Call, timeOf, verdict, refusal}
 use Rattle.promises.specs.Stream.{Starts, Keeps, history, clock, outcome, longer}
 

@@ -10,16 +10,16 @@ use lib.Dec.{leb, ltb, eqb}
 use lib.ListN.{length, drop, length-append, drop-of-length-le}
 use lib.Seq.{drop-cons}
 use Rattle.rules.specs.Limits.{rowLimit, rowNumbers}
-use Rattle.rules.proofs.Truths.{and-left, and-right}
-use Rattle.lines.specs.Digits.{byteAt, over}
+use Rattle.meaning.proofs.Truths.{and-left, and-right}
+use Rattle.lines.specs.Digits.{byteAt, overwritten}
 use Rattle.lines.specs.Line.{lineFeed}
 use Rattle.text.specs.Replies.{longestReply, Wrote}
 use Rattle.text.specs.declared.state.Held.{Held}
 use Rattle.text.specs.declared.turn.Told.{Told}
 use Rattle.text.specs.Held.{heldLine, holding, emptied}
-use Rattle.text.specs.Turn.{Desk, Turn, desk, turnOf, Turned}
-use Rattle.text.specs.Feed.{Memory, lineEnd, byteLeaves, byteText, Feeding, noFeeding, andThen, feed, ready?, stepOf, stateIn, Stepped}
-use Rattle.lines.proofs.Tests.{by-test}
+use Rattle.text.specs.Turn.{Desk, Turn, desk, lineTurn, Turned}
+use Rattle.text.specs.Feed.{Memory, lineEnd, byteLeaves, byteText, Feeding, noFeeding, andThen, feed, ready?, pieceFed, stateIn, Stepped}
+use Rattle.meaning.proofs.Truths.{by-test}
 use Rattle.lines.proofs.OverLaws.{over-over, over-none, over-fits}
 use Rattle.text.proofs.WroteLaws.{wrote-none}
 use Rattle.text.proofs.TurnLaws.{turn-rows}
@@ -29,7 +29,7 @@ pub record Owing (whole : Feeding) (before : List ℕ) (rest : Feeding) (out : L
   pub left : rest .left ≡ whole .left
   pub bytes-used : used + rest .used ≡ whole .used
   pub bytes-written : wrote + length (rest .text) ≡ length (whole .text)
-  pub text : over out wrote (rest .text) ≡ over before 0 (whole .text)
+  pub text : overwritten out wrote (rest .text) ≡ overwritten before 0 (whole .text)
 
 owing-all : (whole : Feeding) (out : List ℕ) → Owing whole out whole out 0 0
 owing-all whole out = record { left = refl; bytes-used = omega arith; bytes-written = omega arith; text = refl }
@@ -55,14 +55,14 @@ ready-parts rows size both =
 
 pub step-left : (m : Memory) (piece out : List ℕ) → ready? m ≡ false
     → Stepped m piece out (record { state = stateIn m; used = 0; wrote = 0 }) (m .desk .table) (m .desk .store) out
-unfolding stepOf
+unfolding pieceFed
 step-left m piece out not =
-    let nothing : stepOf m (length out) piece ≡ noFeeding m = rw not in
+    let nothing : pieceFed m (length out) piece ≡ noFeeding m = rw not in
     record { left = rw nothing; used = rw nothing; wrote = rw nothing (wrote-none out 0) }
 
 pub step-ready : (m : Memory) (room : ℕ) (piece : List ℕ) → m .desk .stage .rows ≤ rowLimit → rowLimit * rowNumbers ≤ length (m .desk .table)
-    → stepOf m room piece ≡ feed m room piece
-unfolding stepOf
+    → pieceFed m room piece ≡ feed m room piece
+unfolding pieceFed
 step-ready m room piece rows size = rw (le-leb _ _ rows, le-leb _ _ size)
 
 module _ (m : Memory) (room : ℕ) (piece : List ℕ) (used : ℕ) where
@@ -116,14 +116,14 @@ feed-rows m room (byte ∷ piece) most =
     by-test (ltb room longestReply) (λ full. rw full most)
     (λ free. rw free (feed-rows (byteLeaves m byte) (room - length (byteText m byte)) piece (byte-rows m byte most)))
 
-pub step-rows : (m : Memory) (room : ℕ) (piece : List ℕ) → m .desk .stage .rows ≤ rowLimit → stepOf m room piece .left .desk .stage .rows ≤ rowLimit
-unfolding stepOf
+pub step-rows : (m : Memory) (room : ℕ) (piece : List ℕ) → m .desk .stage .rows ≤ rowLimit → pieceFed m room piece .left .desk .stage .rows ≤ rowLimit
+unfolding pieceFed
 step-rows m room piece most =
     by-test (ready? m) (λ ready. rw ready (feed-rows m room piece most)) (λ not. rw not most)
 
 -- What holds from turn to turn of the loop.
 pub record Going (first : Memory) (piece before : List ℕ) (m : Memory) (out : List ℕ) (used wrote : ℕ) : Type 0 where
-  pub owing : Owing (stepOf first (length before) piece) before (feed m (length out - wrote) (drop used piece)) out used wrote
+  pub owing : Owing (pieceFed first (length before) piece) before (feed m (length out - wrote) (drop used piece)) out used wrote
   pub used-within : used ≤ length piece
   pub wrote-within : wrote ≤ length out
   pub rows : m .desk .stage .rows ≤ rowLimit
@@ -150,7 +150,7 @@ module _ (first : Memory) (piece before : List ℕ) (m : Memory) (out : List ℕ
   pub going-ends : feed m (length out - wrote) (drop used piece) ≡ noFeeding m
       → Stepped first piece before (record { state = record { held = m .held; stage = m .desk .stage }; used = used; wrote = wrote }) (m .desk .table) (m .desk .store) out
   going-ends none =
-      let done = owing-none (stepOf first (length before) piece) before m out used wrote (rw none at (going .owing)) in
+      let done = owing-none (pieceFed first (length before) piece) before m out used wrote (rw none at (going .owing)) in
       record { left = done .0; used = done .1; wrote = done .2 }
 
   module _ (more : used < length piece) (free : longestReply ≤ length out - wrote) where
@@ -164,7 +164,7 @@ module _ (first : Memory) (piece before : List ℕ) (m : Memory) (out : List ℕ
         let text : byteText m (byteAt piece used) ≡ [] = rw test in
         let wrote-none : Wrote out wrote (byteText m (byteAt piece used)) wrote out = rw text (wrote-none out wrote) in
         record {
-          owing = rw leaves at (owing-on (stepOf first (length before) piece) before m piece out used wrote out wrote (going .owing) more free wrote-none refl);
+          owing = rw leaves at (owing-on (pieceFed first (length before) piece) before m piece out used wrote out wrote (going .owing) more free wrote-none refl);
           used-within = omega arith;
           wrote-within = going .wrote-within;
           rows = going .rows;
@@ -175,14 +175,14 @@ module _ (first : Memory) (piece before : List ℕ) (m : Memory) (out : List ℕ
 
     -- A line feed.
     pub going-line : byteAt piece used ≡ lineFeed → (held : Held) → held ≡ holding (m .held) (byteAt piece used)
-        → (told : Told) (table store after : List ℕ) → Turned (turnOf (m .desk) (heldLine held)) out wrote told table store after
+        → (told : Told) (table store after : List ℕ) → Turned (lineTurn (m .desk) (heldLine held)) out wrote told table store after
         → length table ≡ length (m .desk .table) → length store ≡ length (m .desk .store) → length after ≡ length out
         → (next : Held) → next ≡ emptied held
         → Going first piece before (record { held = next; desk = desk (told .stage) table store }) after (used + 1) (told .place)
     unfolding byteLeaves byteText
     going-line feed-byte held is told table store after turned same-table same-store same-out next empty =
         let test : eqb (byteAt piece used) lineFeed ≡ true = eq-eqb _ _ feed-byte in
-        let turn : Turn = turnOf (m .desk) (heldLine held) in
+        let turn : Turn = lineTurn (m .desk) (heldLine held) in
         let line : lineEnd m (byteAt piece used) ≡ turn = rw is in
         let leaves : byteLeaves m (byteAt piece used) ≡ record { held = next; desk = desk (told .stage) table store } = rw (test, empty, turned .left, is) in
         let text : byteText m (byteAt piece used) ≡ turn .text = rw (test, is) in
@@ -192,7 +192,7 @@ module _ (first : Memory) (piece before : List ℕ) (m : Memory) (out : List ℕ
         let stage : told .stage .rows ≡ turn .left .stage .rows = ap (λ (d : Desk). d .stage .rows) (turned .left) in
         let most : turn .left .stage .rows ≤ rowLimit = turn-rows (m .desk) (heldLine held) (going .rows) in
         record {
-          owing = rw leaves at (owing-on (stepOf first (length before) piece) before m piece out used wrote after (told .place) (going .owing) more free wrote-line same-out);
+          owing = rw leaves at (owing-on (pieceFed first (length before) piece) before m piece out used wrote after (told .place) (going .owing) more free wrote-line same-out);
           used-within = omega arith;
           wrote-within = omega arith;
           rows = omega arith;

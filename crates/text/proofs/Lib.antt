@@ -3,4 +3,5 @@ pub mod WroteLaws
 pub mod TurnLaws
 pub mod FeedLaws
 pub mod ShortLaws
+pub mod CourseLaws
 pub mod Outcomes

@@ -9,15 +9,15 @@ use borrow.Author.Tests.{le-ltb}
 use lib.Dec.{leb, ltb, eqb}
 use lib.ListN.{length, length-append}
 use Rattle.rules.specs.Limits.{rowLimit, rowNumbers}
-use Rattle.rules.specs.Refusals.{Refused, refused}
+use Rattle.refusals.specs.Refusals.{Refused, refused}
 use Rattle.rules.specs.Stretches.{needOf}
-use Rattle.rules.specs.declared.refusal.Refusal.the-variants.{Length}
+use Rattle.refusals.specs.declared.refusal.Refusal.the-variants.{Length}
 use Rattle.lines.specs.Digits.{byteAt, byteDigits}
 use Rattle.lines.specs.Line.{lineFeed}
-use Rattle.lines.specs.Read.{Said, end, numbers, refusal}
+use Rattle.lines.specs.Read.{LineReply, atEnd, goodLine, badLine}
 use Rattle.lines.specs.Frame.{readFrame}
 use Rattle.lines.specs.Rule.{readRule}
-use Rattle.lines.proofs.Tests.{by-test}
+use Rattle.meaning.proofs.Truths.{by-test}
 use Rattle.lines.proofs.WriteLaws.{length-digits}
 use Rattle.monitor.specs.Start.{startOf}
 use Rattle.monitor.specs.Step.{frameOf, Reply}
@@ -25,10 +25,10 @@ use Rattle.monitor.specs.Step as step
 use Rattle.text.specs.declared.state.Part.{Part}
 use Rattle.text.specs.declared.state.Part.the-variants.{Rules, Frames, Over}
 use Rattle.text.specs.Replies.{needDigits, timeDigits, longestReply, replyLine, verdictNumber, refusalLine, refusedLine}
-use Rattle.text.specs.Transcript.{Running, judged, replyOf, frameReply}
+use Rattle.text.specs.Transcript.{Running, frameJudged, replyOf, frameReply}
 use Rattle.text.specs.Held.{heldLine, holding}
 use Rattle.text.specs.Turn.{Desk, rowsRead, runningAt, startText, ruleTurn, beforeFrames, turnIn}
-use Rattle.text.specs.Feed.{Memory, byteLeaves, byteText, feed, stepOf}
+use Rattle.text.specs.Feed.{Memory, byteLeaves, byteText, feed, pieceFed}
 use Rattle.text.proofs.WroteLaws.{length-reply}
 use Rattle.text.proofs.FeedLaws.{step-ready}
 
@@ -45,19 +45,19 @@ start-short : (need : ℕ) (fault : Option Refused) → length (startText need f
 start-short need none = reply-short 0 0 needDigits need (omega arith)
 start-short need (some fault) = refused-short fault
 
-rule-short : (d : Desk) (said : Said) → length (ruleTurn d said .text) ≤ longestReply
-rule-short d end = omega arith
-rule-short d (numbers given) = omega arith
-rule-short d (refusal fault) = refusal-short (fault .number) (d .stage .rows)
+rule-short : (d : Desk) (said : LineReply) → length (ruleTurn d said .text) ≤ longestReply
+rule-short d atEnd = omega arith
+rule-short d (goodLine given) = omega arith
+rule-short d (badLine fault) = refusal-short (fault .number) (d .stage .rows)
 
 answer-short : (time : ℕ) (reply : Reply) → length (replyOf time reply) ≤ longestReply
 answer-short time (step.verdict holds) = reply-short timeDigits time byteDigits (verdictNumber holds) (omega arith)
 answer-short time (step.refusal fault) = refused-short fault
 
-frame-short : (s : Running) (said : Said) → length (frameReply s said) ≤ longestReply
-frame-short s end = omega arith
-frame-short s (numbers given) = answer-short (judged s (frameOf given) .left .time) (judged s (frameOf given) .reply)
-frame-short s (refusal fault) = refused-short fault
+frame-short : (s : Running) (said : LineReply) → length (frameReply s said) ≤ longestReply
+frame-short s atEnd = omega arith
+frame-short s (goodLine given) = answer-short (frameJudged s (frameOf given) .left .time) (frameJudged s (frameOf given) .reply)
+frame-short s (badLine fault) = refused-short fault
 
 turn-short-in : (part : Part) (d : Desk) (line : List ℕ) → length (turnIn part d line .text) ≤ longestReply
 unfolding beforeFrames
@@ -86,5 +86,5 @@ feed-all m room (byte ∷ piece) roomy =
     rw free (omega arith)
 
 pub step-all : (m : Memory) (room : ℕ) (piece : List ℕ) → m .desk .stage .rows ≤ rowLimit → rowLimit * rowNumbers ≤ length (m .desk .table)
-    → longestReply * length piece ≤ room → stepOf m room piece .used ≡ length piece
+    → longestReply * length piece ≤ room → pieceFed m room piece .used ≡ length piece
 step-all m room piece rows size roomy = rw (step-ready m room piece rows size) (feed-all m room piece roomy)

@@ -10,13 +10,13 @@ use native.Mathlib.Numerals.{add-one, add-two, add-three, add-four}
 use lib.ListN.{length, take, drop, set}
 use lib.Seq.{sets-eq}
 use Rattle.rules.specs.Limits.{rowLimit, rowNumbers}
-use Rattle.rules.specs.Refusals.{Refused, refused}
+use Rattle.refusals.specs.Refusals.{Refused, refused}
 use Rattle.rules.specs.Rows.{rowsOf}
 use Rattle.rules.specs.Stretches.{needOf}
-use Rattle.rules.specs.Table.{saidOf, lengthPasses, firstFault, checkOf}
-use Rattle.rules.specs.declared.refusal.Refusal.{Refusal}
-use Rattle.rules.specs.declared.refusal.Refusal.the-variants.{Length}
-use Rattle.lines.specs.Digits.{byteAt, over}
+use Rattle.rules.specs.Table.{checkReplyBy, lengthPasses, firstFault, checkOf}
+use Rattle.refusals.specs.declared.refusal.Refusal.{Refusal}
+use Rattle.refusals.specs.declared.refusal.Refusal.the-variants.{Length}
+use Rattle.lines.specs.Digits.{byteAt, overwritten}
 use Rattle.lines.specs.Line.{lineFeed}
 use Rattle.lines.specs.Rule.{readRule}
 use Rattle.lines.specs.Read as read
@@ -30,13 +30,13 @@ use Rattle.text.specs.declared.state.Part.{Part}
 use Rattle.text.specs.declared.state.Part.the-variants.{Rules, Frames, Over}
 use Rattle.text.specs.declared.turn.Told.{Told}
 use Rattle.text.specs.Replies.{needLine, refusedLine, Wrote}
-use Rattle.text.specs.Transcript.{judged, replyOf}
-use Rattle.text.specs.Turn.{Desk, rowsRead, runningAt, needSaid, staged, ruleTurn, startTurn, beforeFrames, frameTurn, turnIn, turnOf, Turned}
-use Rattle.lines.proofs.Tests.{by-test}
+use Rattle.text.specs.Transcript.{frameJudged, replyOf}
+use Rattle.text.specs.Turn.{Desk, rowsRead, runningAt, needSaid, staged, ruleTurn, startTurn, beforeFrames, frameTurn, turnIn, lineTurn, Turned}
+use Rattle.meaning.proofs.Truths.{by-test}
 use Rattle.text.proofs.WroteLaws.{wrote-none}
 
 -- What was read is what was found.
-pub read-found : {F : Type 0} (found : F → read.Said) (r : F) (next : ℕ) (given : read.Read) (f : F)
+pub read-found : {F : Type 0} (found : F → read.LineReply) (r : F) (next : ℕ) (given : read.Read) (f : F)
     → record { said = found r; next = next } ≡ given → r ≡ f → given .said ≡ found f
 read-found found r next given f is known = sym (ap (λ (x : read.Read). x .said) is) ∙ ap found known
 
@@ -47,7 +47,7 @@ turned-nothing d out place = record { left = refl; wrote = wrote-none out place 
 
 -- Five numbers stored one after the other.
 pub row-stored : (table : List ℕ) (place kind x y a b : ℕ) → place + rowNumbers ≤ length table
-    → set (set (set (set (set table place kind) (place + 1) x) (place + 2) y) (place + 3) a) (place + 4) b ≡ over table place (kind ∷ x ∷ y ∷ a ∷ b ∷ [])
+    → set (set (set (set (set table place kind) (place + 1) x) (place + 2) y) (place + 3) a) (place + 4) b ≡ overwritten table place (kind ∷ x ∷ y ∷ a ∷ b ∷ [])
 row-stored table place kind x y a b room =
     let row : List ℕ = kind ∷ x ∷ y ∷ a ∷ b ∷ [] in
     rw (add-one place, add-two place, add-three place, add-four place)
@@ -64,8 +64,8 @@ start-need table store good =
     (λ passes. rw passes (by-fault (firstFault table (rowsOf table)) (rw passes at good)))
     (λ fails. absurd (refusal-clash (refused Length) (rw fails at good)))
   where
-    by-fault : (fault : Option Refused) → begin store (withRoom (length store) (saidOf fault (rowsOf table) (needOf table))) .refusal ≡ none
-        → needSaid (saidOf fault (rowsOf table) (needOf table)) ≡ needOf table
+    by-fault : (fault : Option Refused) → begin store (withRoom (length store) (checkReplyBy fault (rowsOf table) (needOf table))) .refusal ≡ none
+        → needSaid (checkReplyBy fault (rowsOf table) (needOf table)) ≡ needOf table
     by-fault none good = refl
     by-fault (some fault) good = absurd (refusal-clash fault good)
 
@@ -87,23 +87,23 @@ module _ (d : Desk) (out : List ℕ) (place next : ℕ) (after : List ℕ) where
 
   -- What a frame's answer brings.
   pub frame-told : (counter mask : ℕ) (j : Judged) (store line : List ℕ)
-      → saidStep j store ≡ judged (runningAt d) (frame counter mask)
+      → saidStep j store ≡ frameJudged (runningAt d) (frame counter mask)
       → replyOf (j .record .time) (said (j .answer)) ≡ line
       → Wrote out place line next after
-      → Turned (frameTurn d (read.numbers (counter ∷ mask ∷ []))) out place (record { stage = staged Frames (d .stage .rows) (j .record); place = next }) (d .table) store after
+      → Turned (frameTurn d (read.goodLine (counter ∷ mask ∷ []))) out place (record { stage = staged Frames (d .stage .rows) (j .record); place = next }) (d .table) store after
   frame-told counter mask j store line is reply wrote = record { left = rw (← is); wrote = rw (← is, reply) wrote }
 
 -- The part of the text decides.
 pub turned-in : (part : Part) (d : Desk) (line out : List ℕ) (place : ℕ) (told : Told) (table store after : List ℕ) → d .stage .part ≡ part
-    → Turned (turnIn part d line) out place told table store after → Turned (turnOf d line) out place told table store after
+    → Turned (turnIn part d line) out place told table store after → Turned (lineTurn d line) out place told table store after
 turned-in part d line out place told table store after is turned =
     subst (λ (p : Part). Turned (turnIn p d line) out place told table store after) (sym is) turned
 
 -- No line brings more rows than a table may have.
-rule-rows : (d : Desk) (given : read.Said) → d .stage .rows < rowLimit → ruleTurn d given .left .stage .rows ≤ rowLimit
-rule-rows d read.end fewer = omega arith
-rule-rows d (read.numbers given) fewer = omega arith
-rule-rows d (read.refusal fault) fewer = omega arith
+rule-rows : (d : Desk) (given : read.LineReply) → d .stage .rows < rowLimit → ruleTurn d given .left .stage .rows ≤ rowLimit
+rule-rows d read.atEnd fewer = omega arith
+rule-rows d (read.goodLine given) fewer = omega arith
+rule-rows d (read.badLine fault) fewer = omega arith
 
 turn-rows-in : (part : Part) (d : Desk) (line : List ℕ) → d .stage .rows ≤ rowLimit → turnIn part d line .left .stage .rows ≤ rowLimit
 unfolding beforeFrames
@@ -115,5 +115,5 @@ turn-rows-in Rules d line most =
 turn-rows-in Frames d line most = most
 turn-rows-in Over d line most = most
 
-pub turn-rows : (d : Desk) (line : List ℕ) → d .stage .rows ≤ rowLimit → turnOf d line .left .stage .rows ≤ rowLimit
+pub turn-rows : (d : Desk) (line : List ℕ) → d .stage .rows ≤ rowLimit → lineTurn d line .left .stage .rows ≤ rowLimit
 turn-rows d line most = turn-rows-in (d .stage .part) d line most

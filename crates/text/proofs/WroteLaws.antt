@@ -6,11 +6,11 @@ use Prim.Native.Nat.{ℕ, _+_, _≤_, _<_}
 use native.Mathlib.Omega.{arith}
 use borrow.Author.Tests.{le-leb}
 use lib.Dec.{leb}
-use lib.ListN.{length, set, length-append}
-use Rattle.lines.specs.Digits.{digits, Written}
+use lib.ListN.{length, take, set, length-append}
+use Rattle.lines.specs.Digits.{digits, overwritten, DigitsWritten}
 use Rattle.lines.proofs.WriteLaws.{length-digits}
 use Rattle.text.specs.Replies.{Wrote, replyLine}
-use Rattle.lines.proofs.OverLaws.{over-over, over-none, over-one, over-fits}
+use Rattle.lines.proofs.OverLaws.{take-over, over-over, over-none, over-one, over-fits}
 
 pub wrote-more : (out : List ℕ) (place : ℕ) (first : List ℕ) (between : ℕ) (middle : List ℕ) (second : List ℕ) (next : ℕ) (after : List ℕ)
     → place ≤ length out → Wrote out place first between middle → Wrote middle between second next after
@@ -27,7 +27,7 @@ pub wrote-none : (out : List ℕ) (place : ℕ) → Wrote out place [] place out
 wrote-none out place = record { place-after = omega arith; bytes = rw (over-none out place) }
 
 pub wrote-digits : (out : List ℕ) (place n value : ℕ) (done : Bool) (after : List ℕ)
-    → place + n ≤ length out → Written out place n value done after → Wrote out place (digits n value) (place + n) after
+    → place + n ≤ length out → DigitsWritten out place n value done after → Wrote out place (digits n value) (place + n) after
 wrote-digits out place n value done after room w =
     let fits : leb (place + n) (length out) ≡ true = le-leb _ _ room in
     record { place-after = rw length-digits; bytes = w .bytes ∙ rw fits }
@@ -45,3 +45,9 @@ wrote-fits out line next after w same =
     let at : next ≡ 0 + length line = w .place-after in
     let fits : 0 + length line ≤ length out = over-fits out 0 (omega arith) line (sym (ap length (w .bytes)) ∙ same) in
     omega arith
+
+-- And the output then begins with it.
+pub wrote-begins : (out line : List ℕ) (next : ℕ) (after : List ℕ) → Wrote out 0 line next after → take (length line) after ≡ line
+wrote-begins out line next after w =
+    let on : length line ≡ 0 + length line = omega arith in
+    rw (w .bytes) (ap (λ (n : ℕ). take n (overwritten out 0 line)) on ∙ take-over out 0 (omega arith) line)

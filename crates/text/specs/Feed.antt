@@ -6,8 +6,8 @@ use Prim.Native.Nat.{ℕ, _+_, _-_, _*_}
 use lib.Dec.{leb, ltb, eqb}
 use lib.ListN.{length, replicate}
 use Rattle.rules.specs.Limits.{rowLimit, rowNumbers}
-use Rattle.rules.specs.Refusals.{refused, numberOf}
-use Rattle.rules.specs.declared.refusal.Refusal.the-variants.{Length, Line}
+use Rattle.refusals.specs.Refusals.{refused, numberOf}
+use Rattle.refusals.specs.declared.refusal.Refusal.the-variants.{Length, BadLine}
 use Rattle.lines.specs.Line.{lineFeed}
 use Rattle.monitor.specs.Record.{nothingSeen}
 use Rattle.text.specs.declared.state.Held.{Held}
@@ -18,7 +18,7 @@ use Rattle.text.specs.declared.feed.Fed.{Fed}
 use Rattle.text.specs.declared.feed.Finished.{Finished}
 use Rattle.text.specs.Replies.{refusalLine, refusedLine, longestReply, Wrote}
 use Rattle.text.specs.Held.{lineLimit, heldLine, holding, emptied}
-use Rattle.text.specs.Turn.{Desk, Turn, staged, turnOf}
+use Rattle.text.specs.Turn.{Desk, Turn, staged, lineTurn}
 
 -- What there is between two bytes.
 pub record Memory : Type 0 where
@@ -27,7 +27,7 @@ pub record Memory : Type 0 where
 
 -- A byte is held; a line feed ends the line, and the line brings what it brings.
 abbrev pub lineEnd : Memory → ℕ → Turn
-lineEnd m byte = turnOf (m .desk) (heldLine (holding (m .held) byte))
+lineEnd m byte = lineTurn (m .desk) (heldLine (holding (m .held) byte))
 
 unfoldable pub byteLeaves : Memory → ℕ → Memory
 byteLeaves m byte =
@@ -61,8 +61,8 @@ feed m room (byte ∷ piece) =
 abbrev pub ready? : Memory → Bool
 ready? m = leb (m .desk .stage .rows) rowLimit && leb (rowLimit * rowNumbers) (length (m .desk .table))
 
-unfoldable pub stepOf : Memory → ℕ → List ℕ → Feeding
-stepOf m room piece = cond (ready? m) (feed m room piece) (noFeeding m)
+unfoldable pub pieceFed : Memory → ℕ → List ℕ → Feeding
+pieceFed m room piece = cond (ready? m) (feed m room piece) (noFeeding m)
 
 -- A state with what is lent, and the state in it.
 abbrev pub memoryOf : State → List ℕ → List ℕ → Memory
@@ -83,19 +83,19 @@ fresh =
 -- before the empty line EE0800".
 abbrev pub endText : Part → ℕ → ℕ → List ℕ
 endText Rules rows count =
-    cond (eqb count 0) (refusedLine (refused Line))
-    (cond (leb rowLimit rows) (refusedLine (refused Length)) (refusalLine (numberOf Line) rows))
-endText Frames rows count = cond (eqb count 0) [] (refusedLine (refused Line))
+    cond (eqb count 0) (refusedLine (refused BadLine))
+    (cond (leb rowLimit rows) (refusedLine (refused Length)) (refusalLine (numberOf BadLine) rows))
+endText Frames rows count = cond (eqb count 0) [] (refusedLine (refused BadLine))
 endText Over rows count = []
 
-unfoldable pub endOf : State → List ℕ
-endOf state = endText (state .stage .part) (state .stage .rows) (state .held .count)
+unfoldable pub textEnd : State → List ℕ
+textEnd state = endText (state .stage .part) (state .stage .rows) (state .held .count)
 
 -- A step as the code has it: the state is handed back, what is lent is left, and the text is written from the output's start.
 pub record Stepped (m : Memory) (piece out : List ℕ) (fed : Fed) (table store after : List ℕ) : Type 0 where
-  pub left : memoryOf (fed .state) table store ≡ stepOf m (length out) piece .left
-  pub used : fed .used ≡ stepOf m (length out) piece .used
-  pub wrote : Wrote out 0 (stepOf m (length out) piece .text) (fed .wrote) after
+  pub left : memoryOf (fed .state) table store ≡ pieceFed m (length out) piece .left
+  pub used : fed .used ≡ pieceFed m (length out) piece .used
+  pub wrote : Wrote out 0 (pieceFed m (length out) piece .text) (fed .wrote) after
 
 -- The text's end writes where there is room for the longest line; otherwise nothing.
 pub record Ended (text out : List ℕ) (finished : Finished) (after : List ℕ) : Type 0 where

@@ -5,3 +5,4 @@ pub mod Transcript
 pub mod Held
 pub mod Turn
 pub mod Feed
+pub mod Course

@@ -4,9 +4,9 @@ use mathlib.Core.List.{List, [], _∷_, _++_}
 use mathlib.Core.Path.{_≡_}
 use Prim.Native.Nat.{ℕ, _+_}
 use lib.ListN.{length}
-use Rattle.lines.specs.Digits.{byteDigits, digits, over}
+use Rattle.lines.specs.Digits.{byteDigits, digits, overwritten}
 use Rattle.lines.specs.Line.{lineFeed}
-use Rattle.rules.specs.Refusals.{Refused, rowIn}
+use Rattle.refusals.specs.Refusals.{Refused, rowIn}
 
 -- A line of two numbers, each in so many digits.
 unfoldable pub replyLine : (n first m second : ℕ) → List ℕ
@@ -48,4 +48,4 @@ longestReply = timeDigits + byteDigits + 1
 -- A line is written at a place, over what is there; the next place is the one after it.
 pub record Wrote (out : List ℕ) (place : ℕ) (line : List ℕ) (next : ℕ) (after : List ℕ) : Type 0 where
   pub place-after : next ≡ place + length line
-  pub bytes : after ≡ over out place line
+  pub bytes : after ≡ overwritten out place line

@@ -6,20 +6,21 @@ use Prim.Native.Nat.{ℕ}
 use lib.Dec.{leb, eqb}
 use lib.ListN.{replicate}
 use Rattle.rules.specs.Limits.{rowLimit}
-use Rattle.rules.specs.Refusals.{Refused, refused}
+use Rattle.refusals.specs.Refusals.{Refused, refused}
 use Rattle.rules.specs.Rows.{rowsOf}
 use Rattle.rules.specs.Stretches.{needOf}
-use Rattle.rules.specs.declared.refusal.Refusal.the-variants.{Length, Line}
+use Rattle.refusals.specs.declared.refusal.Refusal.the-variants.{Length, BadLine}
 use Rattle.lines.specs.Digits.{byteAt}
 use Rattle.lines.specs.Line.{lineFeed}
 use Rattle.lines.specs.Lines.{linesOf}
-use Rattle.lines.specs.Read.{Said, end, numbers}
+use Rattle.lines.specs.Read.{LineReply, atEnd, goodLine}
 use Rattle.lines.specs.Read as read
 use Rattle.lines.specs.Frame.{readFrame}
 use Rattle.lines.specs.Rule.{readRule}
 use Rattle.monitor.specs.declared.record.Record.{Record}
+use Rattle.monitor.specs.Record.{clockOf}
 use Rattle.monitor.specs.Start.{Beginning, startOf}
-use Rattle.monitor.specs.Step.{Call, frameOf, Reply, verdict, refusal, Outcome, stepOf}
+use Rattle.monitor.specs.Step.{setupOf, Call, frameOf, Reply, verdict, refusal, Outcome, stepOf}
 use Rattle.text.specs.Replies.{needLine, verdictLine, refusalLine, refusedLine}
 
 -- "The program's store is 8,192 words."
@@ -35,25 +36,25 @@ pub record Running : Type 0 where
   pub found : Record
   pub store : List ℕ
 
-abbrev pub judged : Running → Call → Outcome
-judged s c = stepOf (record { table = s .table }) (s .store) (s .found) c
+abbrev pub frameJudged : Running → Call → Outcome
+frameJudged s c = stepOf (setupOf (s .table)) (s .store) (s .found) c
 
 -- "per frame 12 digits of time and 00 or 01; per refusal EE, number 2 digits, row or 00".
 abbrev pub replyOf : ℕ → Reply → List ℕ
 replyOf time (verdict holds) = verdictLine time holds
 replyOf time (refusal fault) = refusedLine fault
 
-abbrev pub frameReply : Running → Said → List ℕ
-frameReply s end = []
-frameReply s (numbers given) = replyOf (judged s (frameOf given) .left .time) (judged s (frameOf given) .reply)
-frameReply s (read.refusal fault) = refusedLine fault
+abbrev pub frameReply : Running → LineReply → List ℕ
+frameReply s atEnd = []
+frameReply s (goodLine given) = replyOf (clockOf (frameJudged s (frameOf given) .left)) (frameJudged s (frameOf given) .reply)
+frameReply s (read.badLine fault) = refusedLine fault
 
 -- A line that is refused leaves record and store, and so does a frame that is.
-abbrev pub frameLeaves : Running → Said → Running
-frameLeaves s end = s
-frameLeaves s (numbers given) =
-    record { table = s .table; found = judged s (frameOf given) .left; store = judged s (frameOf given) .store }
-frameLeaves s (read.refusal fault) = s
+abbrev pub frameLeaves : Running → LineReply → Running
+frameLeaves s atEnd = s
+frameLeaves s (goodLine given) =
+    record { table = s .table; found = frameJudged s (frameOf given) .left; store = frameJudged s (frameOf given) .store }
+frameLeaves s (read.badLine fault) = s
 
 unfoldable pub framesFrom : Running → List (List ℕ) → List ℕ
 framesFrom s [] = []
@@ -72,15 +73,15 @@ unfoldable pub tableThen : List ℕ → List (List ℕ) → List ℕ
 tableThen table lines = begun table lines (startOf table emptyStore)
 
 -- A rule line's fault, if it has one, and the table with the numbers of a good one.
-abbrev pub ruleFault : Said → Option Refused
-ruleFault end = none
-ruleFault (numbers given) = none
-ruleFault (read.refusal fault) = some fault
+abbrev pub ruleFault : LineReply → Option Refused
+ruleFault atEnd = none
+ruleFault (goodLine given) = none
+ruleFault (read.badLine fault) = some fault
 
-abbrev pub withRule : List ℕ → Said → List ℕ
-withRule table end = table
-withRule table (numbers given) = table ++ given
-withRule table (read.refusal fault) = table
+abbrev pub withRule : List ℕ → LineReply → List ℕ
+withRule table atEnd = table
+withRule table (goodLine given) = table ++ given
+withRule table (read.badLine fault) = table
 
 -- "A bad rule line is EE08 or EE09 with its line counted from 00".
 abbrev pub unlessFault : ℕ → Option Refused → List ℕ → List ℕ
@@ -90,7 +91,7 @@ unlessFault row (some fault) more = refusalLine (fault .number) row
 -- "an empty line", which ends the rules; "a 65th line before the empty one EE0100, whatever it holds"; "text that ends at a line's start before the
 -- empty line EE0800". A line cut off by the text's end is a bad line, since it has no line feed.
 unfoldable pub rulesFrom : List ℕ → List (List ℕ) → List ℕ
-rulesFrom table [] = refusedLine (refused Line)
+rulesFrom table [] = refusedLine (refused BadLine)
 rulesFrom table (line ∷ lines) =
     cond (eqb (byteAt line 0) lineFeed) (tableThen table lines)
     (cond (leb rowLimit (rowsOf table)) (refusedLine (refused Length))

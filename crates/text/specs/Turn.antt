@@ -8,13 +8,13 @@ use Prim.Native.Nat.{ℕ, _+_, _*_, _≤_}
 use lib.Dec.{leb, eqb}
 use lib.ListN.{length, take}
 use Rattle.rules.specs.Limits.{rowLimit, rowNumbers}
-use Rattle.rules.specs.Refusals.{Refused, refused}
+use Rattle.refusals.specs.Refusals.{Refused, refused}
 use Rattle.rules.specs.Stretches.{needOf}
 use Rattle.rules.specs.Table as table
-use Rattle.rules.specs.declared.refusal.Refusal.the-variants.{Length}
-use Rattle.lines.specs.Digits.{byteAt, over}
+use Rattle.refusals.specs.declared.refusal.Refusal.the-variants.{Length}
+use Rattle.lines.specs.Digits.{byteAt, overwritten}
 use Rattle.lines.specs.Line.{lineFeed}
-use Rattle.lines.specs.Read.{Said, end, numbers}
+use Rattle.lines.specs.Read.{LineReply, atEnd, goodLine}
 use Rattle.lines.specs.Read as read
 use Rattle.lines.specs.Frame.{readFrame}
 use Rattle.lines.specs.Rule.{readRule}
@@ -63,19 +63,19 @@ refusing d text =
     record { left = record { stage = staged Over (d .stage .rows) (d .stage .found); table = d .table; store = d .store }; text = text }
 
 -- A good rule line's numbers follow the rows read; "a bad rule line is EE08 or EE09 with its line counted from 00".
-abbrev pub ruleTurn : Desk → Said → Turn
-ruleTurn d end = record { left = d; text = [] }
-ruleTurn d (numbers given) =
+abbrev pub ruleTurn : Desk → LineReply → Turn
+ruleTurn d atEnd = record { left = d; text = [] }
+ruleTurn d (goodLine given) =
     record {
       left =
           record {
             stage = staged Rules (d .stage .rows + 1) (d .stage .found);
-            table = over (d .table) (d .stage .rows * rowNumbers) given;
+            table = overwritten (d .table) (d .stage .rows * rowNumbers) given;
             store = d .store;
           };
       text = [];
     }
-ruleTurn d (read.refusal fault) = refusing d (refusalLine (fault .number) (d .stage .rows))
+ruleTurn d (read.badLine fault) = refusing d (refusalLine (fault .number) (d .stage .rows))
 
 -- "The table is checked at the empty line; a need over the store gives EE0400 in place of the need."
 abbrev pub startPart : Option Refused → Part
@@ -87,7 +87,7 @@ startText need none = needLine need
 startText need (some fault) = refusedLine fault
 
 -- The need that a check of the table says.
-abbrev pub needSaid : table.Said → ℕ
+abbrev pub needSaid : table.CheckReply → ℕ
 needSaid (table.passed rows need) = need
 needSaid (table.refusedBy fault) = 0
 
@@ -108,7 +108,7 @@ beforeFrames d line =
     cond (eqb (byteAt line 0) lineFeed) (emptyTurn d)
     (cond (leb rowLimit (d .stage .rows)) (refusing d (refusedLine (refused Length))) (ruleTurn d (readRule line 0 .said)))
 
-abbrev pub frameTurn : Desk → Said → Turn
+abbrev pub frameTurn : Desk → LineReply → Turn
 frameTurn d said =
     record {
       left =
@@ -125,8 +125,8 @@ turnIn Rules d line = beforeFrames d line
 turnIn Frames d line = frameTurn d (readFrame line 0 .said)
 turnIn Over d line = record { left = d; text = [] }
 
-abbrev pub turnOf : Desk → List ℕ → Turn
-turnOf d line = turnIn (d .stage .part) d line
+abbrev pub lineTurn : Desk → List ℕ → Turn
+lineTurn d line = turnIn (d .stage .part) d line
 
 -- A turn as the code has it: the stage is handed back, what is lent is left, and the text is written at a place of the output.
 pub record Turned (turn : Turn) (out : List ℕ) (place : ℕ) (told : Told) (table store after : List ℕ) : Type 0 where

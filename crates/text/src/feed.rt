@@ -10,8 +10,8 @@ ghost use Rattle.rules.specs.Limits.{rowLimit, rowNumbers};
 ghost use Rattle.text.specs.declared.state.Part.the-variants as Part;
 ghost use Rattle.text.specs.Replies.{longestReply, Wrote};
 ghost use Rattle.text.specs.Held.{heldLine};
-ghost use Rattle.text.specs.Turn.{desk, Room, turnOf, Turned};
-ghost use Rattle.text.specs.Feed.{memoryOf, Stepped, endText, endOf, Ended};
+ghost use Rattle.text.specs.Turn.{desk, Room, lineTurn, Turned};
+ghost use Rattle.text.specs.Feed.{memoryOf, Stepped, endText, textEnd, Ended};
 use crate::replies::LONGEST_REPLY;
 use crate::replies::write_refusal;
 use crate::replies::write_refused;
@@ -24,9 +24,9 @@ use crate::state::held_length;
 use crate::state::hold;
 use crate::turn::Told;
 use crate::turn::turn;
+use refusals::refusal::Refusal;
 use rules::limits::ROW_LIMIT;
 use rules::limits::ROW_NUMBERS;
-use rules::refusal::Refusal;
 
 // The state after a piece, how many of its bytes were taken, and how many bytes were written from the output's start.
 pub struct Fed {
@@ -59,7 +59,7 @@ pub fn step(state: State, table: &mut [u32], store: &mut [u64], piece: &[u8], ou
 
 // The text's end. Where the output has no room for the longest line nothing is written, and the answer says so.
 pub fn finish(state: State, out: &mut [u8]) -> Finished
-    ensures { λ r. ⌜ Ended (endOf state) (now (out .entry)) r (now (out .exit)) ⌝ }
+    ensures { λ r. ⌜ Ended (textEnd state) (now (out .entry)) r (now (out .exit)) ⌝ }
 {
     if out.len() < LONGEST_REPLY {
         return Finished {
@@ -130,7 +130,7 @@ fn end_line(
     place: usize,
 ) -> Told
     requires { ⌜ Room stage (now table) (now out) place ⌝ }
-    ensures { λ r. ⌜ Turned (turnOf (desk stage (now (table .entry)) (now (store .entry))) (heldLine held)) (now (out .entry)) place r (now (table .exit)) (now (store .exit)) (now (out .exit)) ⌝ }
+    ensures { λ r. ⌜ Turned (lineTurn (desk stage (now (table .entry)) (now (store .entry))) (heldLine held)) (now (out .entry)) place r (now (table .exit)) (now (store .exit)) (now (out .exit)) ⌝ }
 {
     let bytes = held.bytes;
     let count = held_length(held.count);
@@ -157,7 +157,7 @@ fn end_of_rules(rows: usize, count: usize, out: &mut [u8]) -> usize
     ensures { λ r. ⌜ Wrote (now (out .entry)) 0 (endText Part.Rules rows count) r (now (out .exit)) ⌝ }
 {
     if count == 0 {
-        return write_refused(out, 0, Refusal::Line);
+        return write_refused(out, 0, Refusal::BadLine);
     }
     if ROW_LIMIT <= rows {
         return write_refused(out, 0, Refusal::Length);
@@ -165,7 +165,7 @@ fn end_of_rules(rows: usize, count: usize, out: &mut [u8]) -> usize
     write_refusal(
         out,
         0,
-        rules::refusal::number(Refusal::Line) as u64,
+        refusals::refusal::number(Refusal::BadLine) as u64,
         rows as u64,
     )
 }
@@ -178,5 +178,5 @@ fn end_of_frames(count: usize, out: &mut [u8]) -> usize
     if count == 0 {
         return 0;
     }
-    write_refused(out, 0, Refusal::Line)
+    write_refused(out, 0, Refusal::BadLine)
 }

@@ -2,10 +2,10 @@
 
 ghost use Prim.Native.Nat.{_+_, _≤_};
 ghost use lib.ListN.{length};
-ghost use Rattle.rules.specs.Refusals.{refused};
+ghost use Rattle.refusals.specs.Refusals.{refused};
 ghost use Rattle.text.specs.Replies.{longestReply, replyLine, needLine, verdictLine, refusalLine, refusedLine, Wrote};
 use lines::digits::write_digits;
-use rules::refusal::Refusal;
+use refusals::refusal::Refusal;
 
 // "need in 8 digits", "12 digits of time", and two digits for every other number, a byte.
 const NEED_DIGITS: usize = 8;
@@ -47,8 +47,8 @@ pub(crate) fn write_refused(out: &mut [u8], place: usize, fault: Refusal) -> usi
     write_refusal(
         out,
         place,
-        rules::refusal::number(fault) as u64,
-        rules::refusal::row(fault) as u64,
+        refusals::refusal::number(fault) as u64,
+        refusals::refusal::row(fault) as u64,
     )
 }
 

@@ -5,11 +5,12 @@ ghost use mathlib.Core.Path.{_≡_};
 ghost use Prim.Native.Nat.{min};
 ghost use Rattle.text.specs.Held.{lineLimit, holding, emptied};
 ghost use Rattle.text.specs.Feed.{fresh};
+use lines::rule::LINE_BYTES;
 use monitor::record::Record;
 use monitor::record::nothing_seen;
 
-// No good line is longer: a rule line has 24 digits and its line feed.
-pub const LINE_LIMIT: usize = 25;
+// No good line is longer than a rule line with its line feed.
+pub const LINE_LIMIT: usize = LINE_BYTES;
 
 // The first bytes of an unfinished line. Of a line that is longer than any good one no more is held.
 pub struct Held {

@@ -8,12 +8,12 @@ ghost use lib.Dec.{eqb};
 ghost use lib.ListN.{length};
 ghost use Rattle.rules.specs.Limits.{rowLimit, rowNumbers};
 ghost use Rattle.rules.specs.Table.{checkOf};
-ghost use Rattle.lines.specs.Digits.{byteAt, over};
+ghost use Rattle.lines.specs.Digits.{byteAt, overwritten};
 ghost use Rattle.lines.specs.Line.{lineFeed};
-ghost use Rattle.lines.specs.Read.{numbers};
+ghost use Rattle.lines.specs.Read.{goodLine};
 ghost use Rattle.lines.specs.Frame.{readFrame};
 ghost use Rattle.lines.specs.Rule.{readRule};
-ghost use Rattle.text.specs.Turn.{desk, Room, needSaid, staged, beforeFrames, emptyTurn, ruleTurn, frameTurn, turnOf, Turned};
+ghost use Rattle.text.specs.Turn.{desk, Room, needSaid, staged, beforeFrames, emptyTurn, ruleTurn, frameTurn, lineTurn, Turned};
 ghost use Rattle.text.specs.declared.state.Part.the-variants as Part;
 use crate::replies::write_need;
 use crate::replies::write_refusal;
@@ -28,9 +28,9 @@ use lines::rule::read_rule;
 use monitor::answer::Answer;
 use monitor::answer::StartAnswer;
 use monitor::start::start;
+use refusals::refusal::Refusal;
 use rules::limits::ROW_LIMIT;
 use rules::limits::ROW_NUMBERS;
-use rules::refusal::Refusal;
 use rules::table::Checked;
 
 // The stage after the line, and the place after what was written.
@@ -49,7 +49,7 @@ pub(crate) fn turn(
     place: usize,
 ) -> Told
     requires { ⌜ Room stage (now table) (now out) place ⌝ }
-    ensures { λ r. ⌜ Turned (turnOf (desk stage (now (table .entry)) (now (store .entry))) (now (line .entry))) (now (out .entry)) place r (now (table .exit)) (now (store .exit)) (now (out .exit)) ⌝ }
+    ensures { λ r. ⌜ Turned (lineTurn (desk stage (now (table .entry)) (now (store .entry))) (now (line .entry))) (now (out .entry)) place r (now (table .exit)) (now (store .exit)) (now (out .exit)) ⌝ }
 {
     let part = stage.part;
     match part {
@@ -134,7 +134,7 @@ fn rule_line(stage: Stage, table: &mut [u32], line: &[u8], out: &mut [u8], place
             place: write_refusal(
                 out,
                 place,
-                rules::refusal::number(fault) as u64,
+                refusals::refusal::number(fault) as u64,
                 rows as u64,
             ),
         },
@@ -144,7 +144,7 @@ fn rule_line(stage: Stage, table: &mut [u32], line: &[u8], out: &mut [u8], place
 // The numbers of a rule, in the table's order.
 fn add_row(table: &mut [u32], place: usize, kind: u32, x: u32, y: u32, a: u32, b: u32)
     requires { ⌜ place + rowNumbers ≤ length (now table) ⌝ }
-    ensures { λ r. ⌜ now (table .exit) ≡ over (now (table .entry)) place (kind ∷ x ∷ y ∷ a ∷ b ∷ []) ⌝ }
+    ensures { λ r. ⌜ now (table .exit) ≡ overwritten (now (table .entry)) place (kind ∷ x ∷ y ∷ a ∷ b ∷ []) ⌝ }
 {
     table[place] = kind;
     table[place + 1] = x;
@@ -232,7 +232,7 @@ fn judge(
     place: usize,
 ) -> Told
     requires { ⌜ Room stage (now table) (now out) place ⌝ }
-    ensures { λ r. ⌜ Turned (frameTurn (desk stage (now (table .entry)) (now (store .entry))) (numbers (counter ∷ mask ∷ []))) (now (out .entry)) place r (now (table .entry)) (now (store .exit)) (now (out .exit)) ⌝ }
+    ensures { λ r. ⌜ Turned (frameTurn (desk stage (now (table .entry)) (now (store .entry))) (goodLine (counter ∷ mask ∷ []))) (now (out .entry)) place r (now (table .entry)) (now (store .exit)) (now (out .exit)) ⌝ }
 {
     let rows = stage.rows;
     let end = rows * ROW_NUMBERS;

@@ -14,7 +14,7 @@ use Rattle.lines.specs.Digits.{byteAt}
 use Rattle.lines.specs.Line.{lineFeed}
 use Rattle.lines.specs.Frame.{frameWidths}
 use Rattle.lines.specs.Rule.{ruleWidths}
-use Rattle.lines.proofs.Tests.{by-test}
+use Rattle.meaning.proofs.Truths.{by-test}
 use Rattle.lines.proofs.AgreeLaws.{said-held, said-cut}
 use Rattle.text.specs.declared.state.Part.{Part}
 use Rattle.text.specs.declared.state.Part.the-variants.{Rules, Frames, Over}
@@ -22,9 +22,10 @@ use Rattle.lines.specs.Lines.{linesGoingOn}
 use Rattle.text.specs.Replies.{longestReply}
 use Rattle.text.specs.Transcript.{emptyStore, framesFrom, rulesFrom, transcript}
 use Rattle.text.specs.Held.{lineLimit, heldLine, holding}
-use Rattle.text.specs.Turn.{Desk, beforeFrames, turnIn, turnOf}
-use Rattle.text.specs.Feed.{Memory, byteLeaves, byteText, feed, memoryOf, stateIn, fresh, endText, endOf}
-use Rattle.text_promises.specs.Cutting.{Lent, course, EveryCutting, joined, Roomy, EveryByteTaken, SomeByteTaken}
+use Rattle.text.specs.Turn.{Desk, beforeFrames, turnIn, lineTurn}
+use Rattle.text.specs.Feed.{Memory, byteLeaves, byteText, feed, memoryOf, stateIn, fresh, endText, textEnd}
+use Rattle.text.specs.Course.{Lent, course, joined}
+use Rattle.text_promises.specs.Cutting.{EveryCutting, Roomy, EveryByteTaken, SomeByteTaken}
 use Rattle.text.proofs.FeedLaws.{step-ready}
 use Rattle.text.proofs.ShortLaws.{feed-all}
 use Rattle.text_promises.proofs.HeldLaws.{HoldsLine, holds-line, holds-none, holds-more}
@@ -48,9 +49,9 @@ turn-held-in Rules d line = rw (getD-take lineLimit line 0 0 (lit< tt), said-hel
 turn-held-in Frames d line = rw (said-held frameWidths lineLimit line (omega arith))
 turn-held-in Over d line = refl
 
-turn-held : (m : Memory) (line : List ℕ) (byte : ℕ) → Stands m line → turnOf (m .desk) (heldLine (holding (m .held) byte)) ≡ turnOf (m .desk) (line ++ (byte ∷ []))
+turn-held : (m : Memory) (line : List ℕ) (byte : ℕ) → Stands m line → lineTurn (m .desk) (heldLine (holding (m .held) byte)) ≡ lineTurn (m .desk) (line ++ (byte ∷ []))
 turn-held m line byte stands =
-    ap (turnOf (m .desk)) (holds-line (holding (m .held) byte) (line ++ (byte ∷ [])) (holds-more (m .held) line byte (stands .held)))
+    ap (lineTurn (m .desk)) (holds-line (holding (m .held) byte) (line ++ (byte ∷ [])) (holds-more (m .held) line byte (stands .held)))
     ∙ turn-held-in (m .desk .stage .part) (m .desk) (line ++ (byte ∷ []))
 
 -- A line stays without a line feed by every other byte.
@@ -159,8 +160,8 @@ end-owed-in Frames d (byte ∷ line) count right is free =
 end-owed-in Over d [] count right is free = refl
 end-owed-in Over d (byte ∷ line) count right is free = refl
 
-end-owed : (m : Memory) (line : List ℕ) → Stands m line → toCome m line [] ≡ endOf (stateIn m)
-unfolding endOf
+end-owed : (m : Memory) (line : List ℕ) → Stands m line → toCome m line [] ≡ textEnd (stateIn m)
+unfolding textEnd
 end-owed m line stands = end-owed-in (m .desk .stage .part) (m .desk) line (m .held .count) (stands .desk) (stands .held .count) (stands .free)
 
 fresh-stands : (table : List ℕ) → rowLimit * rowNumbers ≤ length table → Stands (memoryOf fresh table emptyStore) []

@@ -9,7 +9,7 @@ use borrow.Author.Tests.{ltb-true, ltb-false}
 use lib.Dec.{ltb}
 use lib.ListN.{length, take, set, length-append, length-set}
 use lib.Seq.{take-suc-set, take-all, take-append-le}
-use Rattle.lines.proofs.Tests.{by-test}
+use Rattle.meaning.proofs.Truths.{by-test}
 use Rattle.text.specs.declared.state.Held.{Held}
 use Rattle.text.specs.Held.{lineLimit, heldLine, holding, emptied}
 

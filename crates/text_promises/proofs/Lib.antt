@@ -4,5 +4,7 @@ pub mod HeldLaws
 pub mod OwedLaws
 pub mod Cutting
 pub mod Meaning
+pub mod JoinedLaws
+pub mod TextGoesOn
 pub mod LineTimes
 pub mod WholeCase

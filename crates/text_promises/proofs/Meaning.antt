@@ -9,7 +9,7 @@ use Rattle.rules.specs.Rows.{rowsOf}
 use Rattle.rules.specs.Stretches.{needOf}
 use Rattle.lines.specs.Digits.{byteAt}
 use Rattle.lines.specs.Line.{lineFeed}
-use Rattle.lines.specs.Read.{Said, end, numbers, refusal}
+use Rattle.lines.specs.Read.{LineReply, atEnd, goodLine, badLine}
 use Rattle.lines.specs.Frame.{readFrame}
 use Rattle.monitor.specs.Step.{Call, timeOf, frameOf}
 use Rattle.promises.specs.Stream.{Starts, after, state, clock, outcome}
@@ -20,18 +20,18 @@ use Rattle.promises.proofs.Verdicts.{truths-are-meaning, verdict-is-meaning}
 use Rattle.lines.specs.Lines.{linesOf}
 use Rattle.text.specs.Replies.{needLine}
 use Rattle.text.specs.Transcript.{emptyStore, Running, replyOf, frameReply, frameLeaves, framesFrom, tableThen, rulesFrom, transcript}
-use Rattle.text_promises.specs.Meaning.{FrameMeant, LineMeant, callsAfter, Meant, RulesThen, emptyLine, ruleLine, TranscriptTellsTheMeaning}
+use Rattle.text_promises.specs.Meaning.{FrameMeant, LineMeant, callsAfter, LinesMeant, RulesThen, emptyLine, ruleLine, TranscriptTellsTheMeaning}
 
 -- What the monitor has after the calls so far.
 abbrev pub runningAfter : List ℕ → List Call → Running
 runningAfter table calls =
     record { table = table; found = state table emptyStore calls .found; store = state table emptyStore calls .store }
 
-leaves-more : (table : List ℕ) (calls : List Call) (said : Said)
+leaves-more : (table : List ℕ) (calls : List Call) (said : LineReply)
     → frameLeaves (runningAfter table calls) said ≡ runningAfter table (callsAfter calls said)
-leaves-more table calls end = refl
-leaves-more table calls (numbers given) = rw (one-more table emptyStore calls (frameOf given) .left)
-leaves-more table calls (refusal fault) = refl
+leaves-more table calls atEnd = refl
+leaves-more table calls (goodLine given) = rw (one-more table emptyStore calls (frameOf given) .left)
+leaves-more table calls (badLine fault) = refl
 
 frame-meant : (table : List ℕ) (calls : List Call) (c : Call) → Starts table emptyStore
     → FrameMeant table calls c (replyOf (outcome table emptyStore calls c .left .time) (outcome table emptyStore calls c .reply))
@@ -47,20 +47,20 @@ frame-meant table calls c starts =
       late = λ over. ap (replyOf (outcome table emptyStore calls c .left .time)) (answered .late over);
     }
 
-line-meant : (table : List ℕ) (calls : List Call) (said : Said)
+line-meant : (table : List ℕ) (calls : List Call) (said : LineReply)
     → Starts table emptyStore
     → LineMeant table calls said (frameReply (runningAfter table calls) said)
-line-meant table calls end starts = refl
-line-meant table calls (numbers given) starts = frame-meant table calls (frameOf given) starts
-line-meant table calls (refusal fault) starts = refl
+line-meant table calls atEnd starts = refl
+line-meant table calls (goodLine given) starts = frame-meant table calls (frameOf given) starts
+line-meant table calls (badLine fault) starts = refl
 
 frames-meant : (table : List ℕ) (calls : List Call) (lines : List (List ℕ))
     → Starts table emptyStore
-    → Meant table calls lines (framesFrom (runningAfter table calls) lines)
-unfolding Meant framesFrom
+    → LinesMeant table calls lines (framesFrom (runningAfter table calls) lines)
+unfolding LinesMeant framesFrom
 frames-meant table calls [] starts = refl
 frames-meant table calls (line ∷ lines) starts =
-    let said : Said = readFrame line 0 .said in (
+    let said : LineReply = readFrame line 0 .said in (
       frameReply (runningAfter table calls) said,
       framesFrom (frameLeaves (runningAfter table calls) said) lines,
       refl,

@@ -9,19 +9,19 @@ use lib.Dec.{leb, eqb}
 use lib.ListN.{length, take}
 use lib.Seq.{length-take-le}
 use Rattle.rules.specs.Limits.{rowLimit, rowNumbers}
-use Rattle.rules.specs.Refusals.{Refused}
+use Rattle.refusals.specs.Refusals.{Refused}
 use Rattle.rules.specs.Rows.{rowsOf}
-use Rattle.lines.specs.Digits.{byteAt, over}
+use Rattle.lines.specs.Digits.{byteAt, overwritten}
 use Rattle.lines.specs.Line.{lineFeed}
-use Rattle.lines.specs.Read.{Said, end, numbers, refusal, numbersAt}
+use Rattle.lines.specs.Read.{LineReply, atEnd, goodLine, badLine, numbersRead}
 use Rattle.lines.specs.Frame.{readFrame}
 use Rattle.lines.specs.Rule.{ruleWidths, readRule}
-use Rattle.lines.proofs.Tests.{by-test}
+use Rattle.meaning.proofs.Truths.{by-test}
 use Rattle.monitor.specs.Start.{Beginning, startOf}
 use Rattle.text.specs.declared.state.Part.{Part}
 use Rattle.text.specs.declared.state.Part.the-variants.{Rules, Frames, Over}
 use Rattle.text.specs.Transcript.{emptyStore, frameLeaves, framesFrom, begun, tableThen, ruleFault, withRule, unlessFault, rulesFrom}
-use Rattle.text.specs.Turn.{Desk, Turn, rowsRead, runningAt, startTurn, startPart, ruleTurn, beforeFrames, frameTurn, turnIn, turnOf}
+use Rattle.text.specs.Turn.{Desk, Turn, rowsRead, runningAt, startTurn, startPart, ruleTurn, beforeFrames, frameTurn, turnIn, lineTurn}
 use Rattle.lines.proofs.OverLaws.{take-over, length-over}
 use Rattle.text.proofs.TurnLaws.{turn-rows}
 use Rattle.lines.proofs.AgreeLaws.{said-by}
@@ -61,24 +61,24 @@ rule-owed : (d : Desk) (line : List ℕ) (lines : List (List ℕ)) → Right d �
     → unlessFault (d .stage .rows) (ruleFault (readRule line 0 .said)) (rulesFrom (withRule (rowsRead d) (readRule line 0 .said)) lines)
     ≡ ruleTurn d (readRule line 0 .said) .text ++ owed (ruleTurn d (readRule line 0 .said) .left) lines
 rule-owed d line lines right part =
-    let given : List ℕ = numbersAt line 0 0 ruleWidths in
+    let given : List ℕ = numbersRead line 0 0 ruleWidths in
     let place : ℕ = d .stage .rows * rowNumbers in
     let rows : d .stage .rows ≤ rowLimit = right .rows in
     let room : rowLimit * rowNumbers ≤ length (d .table) = right .room in
     let on : (d .stage .rows + 1) * rowNumbers ≡ place + length given = omega arith in
-    let table : take ((d .stage .rows + 1) * rowNumbers) (over (d .table) place given) ≡ rowsRead d ++ given = rw on (take-over (d .table) place (omega arith) given) in
+    let table : take ((d .stage .rows + 1) * rowNumbers) (overwritten (d .table) place given) ≡ rowsRead d ++ given = rw on (take-over (d .table) place (omega arith) given) in
     said-by
-    (λ (said : Said). unlessFault (d .stage .rows) (ruleFault said) (rulesFrom (withRule (rowsRead d) said) lines) ≡ ruleTurn d said .text ++ owed (ruleTurn d said .left) lines)
+    (λ (said : LineReply). unlessFault (d .stage .rows) (ruleFault said) (rulesFrom (withRule (rowsRead d) said) lines) ≡ ruleTurn d said .text ++ owed (ruleTurn d said .left) lines)
     ruleWidths line
     (rw part)
     (rw table)
     (λ fault. sym (append-nil _))
 
 -- A frame's line.
-frame-left : (d : Desk) (said : Said) → frameLeaves (runningAt d) said ≡ runningAt (frameTurn d said .left)
-frame-left d end = refl
-frame-left d (numbers given) = refl
-frame-left d (refusal fault) = refl
+frame-left : (d : Desk) (said : LineReply) → frameLeaves (runningAt d) said ≡ runningAt (frameTurn d said .left)
+frame-left d atEnd = refl
+frame-left d (goodLine given) = refl
+frame-left d (badLine fault) = refl
 
 turn-owed-in : (part : Part) (d : Desk) (line : List ℕ) (lines : List (List ℕ)) → Right d → d .stage .part ≡ part
     → owedIn part d (line ∷ lines) ≡ turnIn part d line .text ++ owed (turnIn part d line .left) lines
@@ -93,7 +93,7 @@ turn-owed-in Rules d line lines right part =
 turn-owed-in Frames d line lines right part = rw (frame-left d (readFrame line 0 .said))
 turn-owed-in Over d line lines right part = rw part
 
-pub turn-owed : (d : Desk) (line : List ℕ) (lines : List (List ℕ)) → Right d → owed d (line ∷ lines) ≡ turnOf d line .text ++ owed (turnOf d line .left) lines
+pub turn-owed : (d : Desk) (line : List ℕ) (lines : List (List ℕ)) → Right d → owed d (line ∷ lines) ≡ lineTurn d line .text ++ owed (lineTurn d line .left) lines
 turn-owed d line lines right = turn-owed-in (d .stage .part) d line lines right refl
 
 -- The table keeps its length, and the store is the program's until the empty line.
@@ -122,18 +122,18 @@ turn-kept-in Rules d line right part =
     (λ all. rw all (record { table = refl; store = λ is. absurd (not-over is) }))
     (λ fewer. rw fewer
     (let below : d .stage .rows < rowLimit = leb-false _ _ fewer in
-    said-by (λ (said : Said). Kept d (ruleTurn d said)) ruleWidths line
+    said-by (λ (said : LineReply). Kept d (ruleTurn d said)) ruleWidths line
     (record { table = refl; store = right .store })
     (record {
-      table = length-over (d .table) (d .stage .rows * rowNumbers) (numbersAt line 0 0 ruleWidths) (omega arith);
+      table = length-over (d .table) (d .stage .rows * rowNumbers) (numbersRead line 0 0 ruleWidths) (omega arith);
       store = λ is. right .store part;
     })
     (λ fault. record { table = refl; store = λ is. absurd (not-over is) })))))
 turn-kept-in Frames d line right part = record { table = refl; store = λ is. absurd (not-frames is) }
 turn-kept-in Over d line right part = record { table = refl; store = right .store }
 
-pub turn-right : (d : Desk) (line : List ℕ) → Right d → Right (turnOf d line .left)
+pub turn-right : (d : Desk) (line : List ℕ) → Right d → Right (lineTurn d line .left)
 turn-right d line right =
     let room : rowLimit * rowNumbers ≤ length (d .table) = right .room in
-    let kept : Kept d (turnOf d line) = turn-kept-in (d .stage .part) d line right refl in
+    let kept : Kept d (lineTurn d line) = turn-kept-in (d .stage .part) d line right refl in
     record { rows = turn-rows d line (right .rows); room = omega arith; store = kept .store }

@@ -10,9 +10,9 @@ use lib.ListN.{length, drop, length-drop, drop-of-length-le}
 use lib.Seq.{drop-drop}
 use Rattle.lines.specs.Digits.{byteDigits, byteValues, hexAt}
 use Rattle.lines.specs.Line.{rightAt, sumAt, pastFirst, pastLineFeed, digitsOf, lineAt}
-use Rattle.lines.specs.Read.{Said, end, bytesOf}
+use Rattle.lines.specs.Read.{LineReply, atEnd, bytesOf}
 use Rattle.lines.specs.Frame.{frameWidths, readFrame}
-use Rattle.lines.proofs.Tests.{by-test}
+use Rattle.meaning.proofs.Truths.{by-test}
 use Rattle.lines.proofs.LineLaws.{next-past}
 use Rattle.lines.proofs.LinesLaws.{lines-first}
 use Rattle.lines.proofs.AgreeLaws.{past-some, said-alone}
@@ -21,11 +21,11 @@ use Rattle.lines.specs.Lines.{linesGoingOn, linesOf}
 use Rattle.text_promises.specs.Places.{LinesAreReadings}
 
 -- At the end "end" is said, before it something of a line.
-said-end : (text : List ℕ) (place : ℕ) → length text ≤ place → readFrame text place .said ≡ end
+said-end : (text : List ℕ) (place : ℕ) → length text ≤ place → readFrame text place .said ≡ atEnd
 unfolding lineAt
 said-end text place past = rw (le-leb _ _ past)
 
-more-said : (text : List ℕ) (place : ℕ) (more : List Said) → place < length text
+more-said : (text : List ℕ) (place : ℕ) (more : List LineReply) → place < length text
     → untilEnd (readFrame text place .said) more ≡ readFrame text place .said ∷ more
 unfolding lineAt
 more-said text place more within =
@@ -36,7 +36,7 @@ more-said text place more within =
     (by-test (eqb (sumAt text place n % byteValues) (hexAt text (place + byteDigits * n) byteDigits)) (λ is. rw is) (λ wrong. rw wrong)))
     (λ wrong. rw wrong))
 
-abbrev alone : List ℕ → Said
+abbrev alone : List ℕ → LineReply
 alone line = readFrame line 0 .said
 
 -- One reading, and those from the next place.
@@ -51,7 +51,7 @@ module _ (text : List ℕ) (place : ℕ) (within : place < length text) where
   unfolding pastLineFeed
   next-is = next-past text place (bytesOf frameWidths) within
 
-  reading-on : (more : List Said) → more ≡ map alone (linesOf (drop (readFrame text place .next) text))
+  reading-on : (more : List LineReply) → more ≡ map alone (linesOf (drop (readFrame text place .next) text))
       → untilEnd (readFrame text place .said) more ≡ map alone (linesOf rest)
   reading-on more is =
       let after : drop (readFrame text place .next) text ≡ drop (pastFirst rest) rest =

@@ -17,7 +17,7 @@ use Rattle.spans.specs.Layout.{endAt, spansFrom, wordsOf, packed, zeros?}
 use Rattle.spans.specs.Stretch.{covered}
 use Rattle.spans.specs.StretchSound.{soundSpan?, soundFrom?, soundEndless?, soundSpans?, soundStretch?}
 use Rattle.monitor.specs.Record.{stretchAt, nothingSeen}
-use Rattle.monitor.specs.Soundness.{every, soundEntry?, soundRow?, sound?}
+use Rattle.monitor.specs.Soundness.{every, soundRow?, zeroPast?, sound?}
 use Rattle.monitor.specs.Ready.{readyOf}
 use Rattle.monitor.specs.Start.{startOf}
 use Rattle.monitor.specs.Event.{spansAfter, truthOf, truthsAfter, countsAfter, wordsDone, storeAfter, recordAfter}
@@ -25,5 +25,5 @@ use Rattle.monitor.specs.Step.{refusalOf, stepOf}
 use Rattle.text_promises.specs.WholeCase.{WholeCase}
 
 pub whole-case : WholeCase
-unfolding emptyStore transcript rulesFrom tableThen framesFrom linesGoingOn replyLine isDigit digitValue digitsAt hexAt digitByte digits rightAt sumAt lineAt checkOf lengthPasses rowPasses limitsPass faultOf firstFault kindAt numbersAt offset endOf figure frameTime clip join update endAt spansFrom wordsOf packed covered soundSpan? soundFrom? soundEndless? soundSpans? zeros? soundStretch? stretchAt nothingSeen every soundEntry? soundRow? sound? readyOf startOf spansAfter truthOf truthsAfter countsAfter wordsDone storeAfter recordAfter refusalOf stepOf
+unfolding emptyStore transcript rulesFrom tableThen framesFrom linesGoingOn replyLine isDigit digitValue digitsAt hexAt digitByte digits rightAt sumAt lineAt checkOf lengthPasses rowPasses limitsPass faultOf firstFault kindAt numbersAt offset endOf figure frameTime clip join update endAt spansFrom wordsOf packed covered soundSpan? soundFrom? soundEndless? soundSpans? zeros? soundStretch? stretchAt nothingSeen every soundRow? zeroPast? sound? readyOf startOf spansAfter truthOf truthsAfter countsAfter wordsDone storeAfter recordAfter refusalOf stepOf
 whole-case = refl

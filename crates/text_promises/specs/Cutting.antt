@@ -3,51 +3,21 @@
 use mathlib.Core.List.{List, [], _∷_, _++_}
 use mathlib.Core.Path.{_≡_}
 use Prim.Native.Nat.{ℕ, _*_, _≤_, _<_}
-use lib.ListN.{length, take}
+use lib.ListN.{length}
 use Rattle.rules.specs.Limits.{rowLimit, rowNumbers}
 use Rattle.text.specs.Replies.{longestReply}
-use Rattle.text.specs.Transcript.{emptyStore, transcript}
-use Rattle.text.specs.Feed.{Memory, stepOf, memoryOf, stateIn, fresh, endOf}
-
--- A piece, and the room of the output that is lent for it.
-pub record Lent : Type 0 where
-  pub piece : List ℕ
-  pub room : ℕ
-
--- What a list of steps leaves, the bytes that they took, and what they wrote, in order.
-pub record Course : Type 0 where
-  pub left : Memory
-  pub taken : List ℕ
-  pub written : List ℕ
-
-abbrev pub andOn : Memory → Lent → Course → Course
-andOn m lent rest =
-    record {
-      left = rest .left;
-      taken = take (stepOf m (lent .room) (lent .piece) .used) (lent .piece) ++ rest .taken;
-      written = stepOf m (lent .room) (lent .piece) .text ++ rest .written;
-    }
-
-unfoldable pub course : Memory → List Lent → Course
-course m [] = record { left = m; taken = []; written = [] }
-course m (lent ∷ more) = andOn m lent (course (stepOf m (lent .room) (lent .piece) .left) more)
-
--- From the first byte on, with a table that is lent.
-abbrev pub courseOf : List ℕ → List Lent → Course
-courseOf table lents = course (memoryOf fresh table emptyStore) lents
+use Rattle.text.specs.Transcript.{transcript}
+use Rattle.text.specs.Feed.{Memory, pieceFed, stateIn, textEnd}
+use Rattle.text.specs.Course.{Lent, courseOf, joined}
 
 -- The pieces and their rooms are any: of a piece that was not taken whole the caller brings the rest again, or not.
 abbrev pub EveryCutting : Type 0
 EveryCutting = (table : List ℕ)
     → rowLimit * rowNumbers ≤ length table
     → (lents : List Lent)
-    → courseOf table lents .written ++ endOf (stateIn (courseOf table lents .left)) ≡ transcript (courseOf table lents .taken)
+    → courseOf table lents .written ++ textEnd (stateIn (courseOf table lents .left)) ≡ transcript (courseOf table lents .taken)
 
 -- Where each piece has room for a line a byte, every byte is taken: the text is the pieces, one after the other.
-abbrev pub joined : List Lent → List ℕ
-joined [] = []
-joined (lent ∷ more) = lent .piece ++ joined more
-
 abbrev pub Roomy : List Lent → Type 0
 Roomy [] = Unit
 Roomy (lent ∷ more) = (longestReply * length (lent .piece) ≤ lent .room) × Roomy more
@@ -66,4 +36,4 @@ SomeByteTaken = (m : Memory) (room : ℕ) (piece : List ℕ)
     → rowLimit * rowNumbers ≤ length (m .desk .table)
     → longestReply ≤ room
     → 0 < length piece
-    → 0 < stepOf m room piece .used
+    → 0 < pieceFed m room piece .used

@@ -2,5 +2,6 @@
 pub mod Places
 pub mod Cutting
 pub mod Meaning
+pub mod TextGoesOn
 pub mod LineTimes
 pub mod WholeCase

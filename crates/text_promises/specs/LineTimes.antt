@@ -5,9 +5,9 @@ use Prim.Native.Nat.{ℕ, _≤_}
 use lib.Dec.{T}
 use Rattle.meaning.specs.FrameTime.{counterOf, TrueTimes}
 use Rattle.rules.specs.Stretches.{needOf}
-use Rattle.lines.specs.Read.{Said, end, numbers, refusal}
+use Rattle.lines.specs.Read.{LineReply, atEnd, goodLine, badLine}
 use Rattle.lines.specs.Frame.{readFrame}
-use Rattle.monitor.specs.Record.{timeLimit}
+use Rattle.times.specs.Times.{timeLimit}
 use Rattle.monitor.specs.Step.{Reply}
 use Rattle.promises.specs.Stream.{Starts}
 use Rattle.promises.specs.AsIfNotMade.{judged}
@@ -19,25 +19,25 @@ use Rattle.text.specs.Transcript.{emptyStore, replyOf, transcript}
 use Rattle.text_promises.specs.Meaning.{RulesThen}
 
 -- What is read of each line after the empty one.
-abbrev pub readLines : List (List ℕ) → List Said
+abbrev pub readLines : List (List ℕ) → List LineReply
 readLines lines = map (λ (line : List ℕ). readFrame line 0 .said) lines
 
 -- What is written for lines, where the good ones are answered so and have these times: a reply line for each good one, a refusal for each other.
-unfoldable pub written : List Said → List Reply → List ℕ → List ℕ
+unfoldable pub written : List LineReply → List Reply → List ℕ → List ℕ
 written [] replies times = []
-written (end ∷ lines) replies times = written lines replies times
-written (refusal fault ∷ lines) replies times = refusedLine fault ++ written lines replies times
-written (numbers given ∷ lines) [] times = []
-written (numbers given ∷ lines) (reply ∷ replies) [] = []
-written (numbers given ∷ lines) (reply ∷ replies) (time ∷ times) = replyOf time reply ++ written lines replies times
+written (atEnd ∷ lines) replies times = written lines replies times
+written (badLine fault ∷ lines) replies times = refusedLine fault ++ written lines replies times
+written (goodLine given ∷ lines) [] times = []
+written (goodLine given ∷ lines) (reply ∷ replies) [] = []
+written (goodLine given ∷ lines) (reply ∷ replies) (time ∷ times) = replyOf time reply ++ written lines replies times
 
 -- What the frames of the good lines are answered, from the start at the empty line.
-abbrev pub frameReplies : List ℕ → List (List ℕ) → List Reply
-frameReplies table lines = lineReplies table emptyStore (goodLines (readLines lines))
+abbrev pub textReplies : List ℕ → List (List ℕ) → List Reply
+textReplies table lines = lineReplies table emptyStore (goodLines (readLines lines))
 
 -- The text's output, with these times in the reply lines.
 abbrev pub Shows : (text table : List ℕ) → List (List ℕ) → List ℕ → Type 0
-Shows text table lines times = transcript text ≡ needLine (needOf table) ++ written (readLines lines) (frameReplies table lines) times
+Shows text table lines times = transcript text ≡ needLine (needOf table) ++ written (readLines lines) (textReplies table lines) times
 
 -- Where all true times are as the demand says, and within the limit, each good line's reply is a verdict with its true time.
 -- Where those of the accepted lines are as the demand says, and the others any at all, each verdict has its line's true time; the others are
@@ -45,8 +45,8 @@ Shows text table lines times = transcript text ≡ needLine (needOf table) ++ wr
 pub record TextTimed (text table : List ℕ) (lines : List (List ℕ)) (times : List ℕ) : Type 0 where
   pub all : TrueTimes times
       → Every (λ (time : ℕ). time ≤ timeLimit) times
-      → Every (λ (reply : Reply). T (judged reply)) (frameReplies table lines) × Shows text table lines times
-  pub accepted-ones : TrueTimes (acceptedTimes (frameReplies table lines) times) → Shows text table lines times
+      → Every (λ (reply : Reply). T (judged reply)) (textReplies table lines) × Shows text table lines times
+  pub accepted-ones : TrueTimes (acceptedTimes (textReplies table lines) times) → Shows text table lines times
 
 -- A text whose rules make a table that passes, with room in the program's store; the good lines after the empty line have the counters of true times,
 -- and refused lines may stand between them.

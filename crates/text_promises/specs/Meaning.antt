@@ -8,16 +8,16 @@ use Prim.Native.Nat.{ℕ, _<_}
 use lib.Dec.{T}
 use Rattle.meaning.specs.Formula.{Holds}
 use Rattle.rules.specs.Limits.{rowLimit}
-use Rattle.rules.specs.Refusals.{refused}
+use Rattle.refusals.specs.Refusals.{refused}
 use Rattle.rules.specs.Rows.{rowsOf}
 use Rattle.rules.specs.Stretches.{needOf}
-use Rattle.rules.specs.declared.refusal.Refusal.the-variants.{Late}
+use Rattle.refusals.specs.declared.refusal.Refusal.the-variants.{Late}
 use Rattle.lines.specs.Digits.{byteAt}
 use Rattle.lines.specs.Line.{lineFeed}
-use Rattle.lines.specs.Read.{Said, end, numbers, refusal}
+use Rattle.lines.specs.Read.{LineReply, atEnd, goodLine, badLine}
 use Rattle.lines.specs.Frame.{readFrame}
 use Rattle.lines.specs.Rule.{readRule}
-use Rattle.monitor.specs.Record.{timeLimit}
+use Rattle.times.specs.Times.{timeLimit}
 use Rattle.monitor.specs.Step.{Call, timeOf, frameOf}
 use Rattle.promises.specs.Stream.{Starts, Keeps, clock, longer}
 use Rattle.promises.specs.Verdicts.{judgedFormula}
@@ -32,25 +32,25 @@ pub record FrameMeant (table : List ℕ) (calls : List Call) (c : Call) (reply :
   pub late : timeLimit < timeOf (clock calls) c → reply ≡ refusedLine (refused Late)
 
 -- The reply to a line, by what is read of it. A line that is refused is no call.
-abbrev pub LineMeant : List ℕ → List Call → Said → List ℕ → Type 0
-LineMeant table calls end reply = reply ≡ []
-LineMeant table calls (numbers given) reply = FrameMeant table calls (frameOf given) reply
-LineMeant table calls (refusal fault) reply = reply ≡ refusedLine fault
+abbrev pub LineMeant : List ℕ → List Call → LineReply → List ℕ → Type 0
+LineMeant table calls atEnd reply = reply ≡ []
+LineMeant table calls (goodLine given) reply = FrameMeant table calls (frameOf given) reply
+LineMeant table calls (badLine fault) reply = reply ≡ refusedLine fault
 
-abbrev pub callsAfter : List Call → Said → List Call
-callsAfter calls end = calls
-callsAfter calls (numbers given) = calls ++ (frameOf given ∷ [])
-callsAfter calls (refusal fault) = calls
+abbrev pub callsAfter : List Call → LineReply → List Call
+callsAfter calls atEnd = calls
+callsAfter calls (goodLine given) = calls ++ (frameOf given ∷ [])
+callsAfter calls (badLine fault) = calls
 
 -- The output for the frames' lines is their replies, one after the other, each as it is meant.
-unfoldable pub Meant : List ℕ → List Call → List (List ℕ) → List ℕ → Type 0
-Meant table calls [] output = output ≡ []
-Meant table calls (line ∷ lines) output =
+unfoldable pub LinesMeant : List ℕ → List Call → List (List ℕ) → List ℕ → Type 0
+LinesMeant table calls [] output = output ≡ []
+LinesMeant table calls (line ∷ lines) output =
     (reply : List ℕ)
     × (rest : List ℕ)
     × (output ≡ reply ++ rest)
     × LineMeant table calls (readFrame line 0 .said) reply
-    × Meant table (callsAfter calls (readFrame line 0 .said)) lines rest
+    × LinesMeant table (callsAfter calls (readFrame line 0 .said)) lines rest
 
 -- Good rule lines, at most 64, that bring a table to what it is at the empty line, and the lines after that one.
 pub data RulesThen : List ℕ → List (List ℕ) → List ℕ → List (List ℕ) → Type 0 where
@@ -58,7 +58,7 @@ pub data RulesThen : List ℕ → List (List ℕ) → List ℕ → List (List �
   ruleLine : {table line given whole : List ℕ} {lines rest : List (List ℕ)}
       → ¬ (byteAt line 0 ≡ lineFeed)
       → rowsOf table < rowLimit
-      → readRule line 0 .said ≡ numbers given
+      → readRule line 0 .said ≡ goodLine given
       → RulesThen (table ++ given) lines whole rest
       → RulesThen table (line ∷ lines) whole rest
 
@@ -67,4 +67,4 @@ abbrev pub TranscriptTellsTheMeaning : Type 0
 TranscriptTellsTheMeaning = (text table : List ℕ) (lines : List (List ℕ))
     → RulesThen [] (linesOf text) table lines
     → Starts table emptyStore
-    → (output : List ℕ) × (transcript text ≡ needLine (needOf table) ++ output) × Meant table [] lines output
+    → (output : List ℕ) × (transcript text ≡ needLine (needOf table) ++ output) × LinesMeant table [] lines output

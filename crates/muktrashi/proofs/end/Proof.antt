@@ -1,7 +1,10 @@
--- `muktrashi::end` is safe: what was written fits the output. Assumes nothing.
+-- `muktrashi::end` meets its contract: there is room for the longest line, so `finish` writes the text's end; and that fits the output. Assumes nothing.
 use mathlib.Core.Path.{sym}
 use borrow.Author.Needs.{needs}
+use borrow.Author.Tests.{le-leb}
+use lib.ListN.{length}
 use lib.Seq.{length-take-le}
+use Rattle.text.specs.Replies.{longestReply}
 use Rattle.text.proofs.WroteLaws.{wrote-fits}
 use Rattle.muktrashi.proofs.end.Statement.{statement}
 use Rattle.muktrashi.proofs.end.Tie as tie
@@ -24,7 +27,10 @@ same-length : tie.Need-same-length
 same-length c = search needs
 
 returns : tie.Need-returns
-returns c = search needs
+returns c =
+    let finished = c .before .before .before .before in
+    let start = finished .before .before .before in
+    rw (le-leb longestReply (length (start .args .out .now)) (start .pre)) at (finished .finish .ensures .wrote)
 
 pub end-spec : {M : Type 1} → statement M
 end-spec =

@@ -1,4 +1,5 @@
--- `muktrashi::main` lends what `run` asks for: a table with room for every row, a store of 8,192 zeros, and room for a line a byte. Assumes nothing.
+-- `muktrashi::main` lends what `run` asks for: a table with room for every row, a store of 8,192 zeros, a piece of some bytes, and room for a line
+-- a byte. Assumes nothing.
 use mathlib.Core.Path.{refl}
 use borrow.Author.Needs.{needs}
 use Rattle.text.specs.Transcript.{emptyStore}
@@ -19,7 +20,7 @@ slice-aggregate-run-4 c = search needs
 
 run-requires : tie.Need-run-requires
 unfolding emptyStore
-run-requires c κs = (search needs, refl, search needs)
+run-requires c κs = (search needs, refl, search needs, search needs)
 
 returns : tie.Need-returns
 returns c = search needs

@@ -1,8 +1,9 @@
--- `muktrashi::run` is safe and ends, and takes every piece whole. The loop: what is lent keeps its length, so there is room for a line a byte, and no
--- more rows are counted than a table may have. What was written fits the output. The measure is the turns left. Assumes nothing.
+-- `muktrashi::run` meets its contract: each turn takes one piece more, whole, from where the turn before ended (`went-on`). The loop: what is lent keeps
+-- its length, so there is room for a line a byte, and no more rows are counted than a table may have. What was written fits the output. The measure
+-- is the turns left. Assumes nothing.
 use mathlib.Core.List.{List}
 use mathlib.Core.Path.{_≡_, refl, sym, ap, _∙_}
-use Prim.Native.Nat.{ℕ, _*_, _≤_}
+use Prim.Native.Nat.{ℕ, _-_, _*_, _^_, _≤_, _<_}
 use native.Mathlib.Omega.{arith}
 use borrow.Author.Needs.{needs}
 use lib.ListN.{length}
@@ -11,9 +12,11 @@ use Rattle.rules.specs.Limits.{rowLimit, rowNumbers}
 use Rattle.text.specs.declared.feed.Fed.{Fed}
 use Rattle.text.specs.declared.state.State.{State}
 use Rattle.text.specs.Replies.{longestReply}
-use Rattle.text.specs.Feed.{Memory, stepOf, memoryOf, fresh, Stepped}
+use Rattle.text.specs.Feed.{Memory, pieceFed, memoryOf, fresh, Stepped}
 use Rattle.text.proofs.WroteLaws.{wrote-fits}
 use Rattle.text.proofs.FeedLaws.{step-rows}
+use Rattle.muktrashi.specs.Loop.{Went}
+use Rattle.muktrashi.proofs.LoopLaws.{went-first, some-read, went-on, looped-on, looped-end}
 use Rattle.muktrashi.proofs.run.Statement.{statement}
 use Rattle.muktrashi.proofs.run.Tie as tie
 
@@ -25,7 +28,7 @@ fresh-rows s is = rw is (omega arith)
 stepped-rows : (m : Memory) (piece out : List ℕ) (fed : Fed) (table store after : List ℕ) → Stepped m piece out fed table store after
     → m .desk .stage .rows ≤ rowLimit → fed .state .stage .rows ≤ rowLimit
 stepped-rows m piece out fed table store after stepped most =
-    let same : fed .state .stage .rows ≡ stepOf m (length out) piece .left .desk .stage .rows =
+    let same : fed .state .stage .rows ≡ pieceFed m (length out) piece .left .desk .stage .rows =
     ap (λ (m : Memory). m .desk .stage .rows) (stepped .left) in
     rw same (step-rows m (length out) piece most)
 
@@ -37,10 +40,12 @@ Inv-loop table₀ store₀ piece₀ out₀ state₀ turns₀ table store piece o
     × (length out ≡ length out₀)
     × (state .stage .rows ≤ rowLimit)
     × (rowLimit * rowNumbers ≤ length table₀)
+    × (0 < length piece₀)
     × (longestReply * length piece₀ ≤ length out₀)
+    × Went table₀ turns state table store
 
 abbrev μ-loop : tie.MeasureT-loop
-μ-loop table₀ store₀ piece₀ out₀ state₀ turns₀ table store piece out state turns = turns
+μ-loop table₀ store₀ piece₀ out₀ state₀ turns₀ table store piece out state turns = 2 ^ 64 - turns
 
 fresh-requires : tie.Need-fresh-requires Inv-loop μ-loop
 fresh-requires c κs = search needs
@@ -48,10 +53,17 @@ fresh-requires c κs = search needs
 loop-holds : tie.Need-loop-holds Inv-loop μ-loop
 loop-holds c =
     let start = c .before .before .before .before .before in
-    (refl, refl, refl, refl, fresh-rows (c .fresh .result) (c .fresh .ensures), start .pre .0, start .pre .2)
-
-sub-turns : tie.Need-sub-turns Inv-loop μ-loop
-sub-turns c = omega arith
+    let is-fresh = c .fresh .ensures in (
+      refl,
+      refl,
+      refl,
+      refl,
+      fresh-rows (c .fresh .result) is-fresh,
+      start .pre .0,
+      start .pre .2,
+      start .pre .3,
+      went-first _ _ _ is-fresh (start .pre .1),
+    )
 
 read-requires : tie.Need-read-requires Inv-loop μ-loop
 read-requires c κs = search needs
@@ -75,7 +87,10 @@ same-length-4 : tie.Need-same-length-4 Inv-loop μ-loop
 same-length-4 c = omega arith
 
 returns : tie.Need-returns Inv-loop μ-loop
-returns c = search needs
+returns c =
+    let ending = c .before .before in
+    let at = ending .before .before .before .before .before .before .before .before .before .before in
+    looped-end _ _ _ _ _ (at .loop .inv .8) _ _ _ (ending .end .ensures)
 
 slice-reshare-prefix-take-whole : tie.Need-slice-reshare-prefix-take-whole Inv-loop μ-loop
 slice-reshare-prefix-take-whole c = search needs
@@ -86,9 +101,12 @@ slice-aggregate-take-whole c = search needs
 take-whole-requires : tie.Need-take-whole-requires Inv-loop μ-loop
 take-whole-requires c κs = search needs
 
+add-turns : tie.Need-add-turns Inv-loop μ-loop
+add-turns c = search needs
+
 slice-reshare-prefix-write-all : tie.Need-slice-reshare-prefix-write-all Inv-loop μ-loop
 slice-reshare-prefix-write-all c =
-    let fed = c .before .before .before .before .before .before .take-whole in
+    let fed = c .before .before .before .before .before .before .before .take-whole in
     wrote-fits _ _ _ _ (fed .ensures .1 .wrote) (fed .kept .1 .1 .1 .1 .0)
 
 slice-aggregate-write-all : tie.Need-slice-aggregate-write-all Inv-loop μ-loop
@@ -98,19 +116,40 @@ write-all-requires : tie.Need-write-all-requires Inv-loop μ-loop
 write-all-requires c κs = search needs
 
 same-length-5 : tie.Need-same-length-5 Inv-loop μ-loop
-same-length-5 c = omega arith
+same-length-5 c =
+    let fed = c .before .before .before .before .before .before .before .before .before .before in
+    let read = fed .before .before .before .before .before .before .before .before .before .before in
+    let at = read .before .before .before in
+    fed .take-whole .kept .1 .0 ∙ at .loop .inv .0
 
 same-length-6 : tie.Need-same-length-6 Inv-loop μ-loop
-same-length-6 c = omega arith
+same-length-6 c =
+    let fed = c .before .before .before .before .before .before .before .before .before .before in
+    let read = fed .before .before .before .before .before .before .before .before .before .before in
+    let at = read .before .before .before in
+    fed .take-whole .kept .1 .1 .0 ∙ at .loop .inv .1
 
 same-length-7 : tie.Need-same-length-7 Inv-loop μ-loop
-same-length-7 c = omega arith
+same-length-7 c =
+    let fed = c .before .before .before .before .before .before .before .before .before .before in
+    let read = fed .before .before .before .before .before .before .before .before .before .before in
+    let at = read .before .before .before in
+    read .read .kept .1 .0 ∙ at .loop .inv .2
 
 same-length-8 : tie.Need-same-length-8 Inv-loop μ-loop
-same-length-8 c = omega arith
+same-length-8 c =
+    let fed = c .before .before .before .before .before .before .before .before .before .before in
+    let read = fed .before .before .before .before .before .before .before .before .before .before in
+    let at = read .before .before .before in
+    fed .take-whole .kept .1 .1 .1 .1 .0 ∙ at .loop .inv .3
 
 returns-2 : tie.Need-returns-2 Inv-loop μ-loop
-returns-2 c = search needs
+returns-2 c =
+    let fed = c .before .before .before .before .before .before .before .before .before .before in
+    let read = fed .before .before .before .before .before .before .before .before .before .before in
+    let at = read .before .before .before in
+    let some = some-read _ _ (slice-aggregate-take-whole (fed .before .before)) (fed .before .before .before .before .before .if1 .left) in
+    looped-on _ _ _ _ _ (went-on _ _ _ _ _ _ _ _ _ _ _ (at .loop .inv .8) some (fed .take-whole .ensures .0) (fed .take-whole .ensures .1)) _
 
 loop-less : tie.Need-loop-less Inv-loop μ-loop
 loop-less c = omega arith
@@ -119,7 +158,8 @@ loop-again : tie.Need-loop-again Inv-loop μ-loop
 loop-again c =
     let fed = c .before .before .before .before .before .before .before .before .before .before in
     let read = fed .before .before .before .before .before .before .before .before .before .before in
-    let at = read .before .before .before in (
+    let at = read .before .before .before in
+    let some = some-read _ _ (slice-aggregate-take-whole (fed .before .before)) (fed .before .before .before .before .before .if1 .left) in (
       fed .take-whole .kept .1 .0 ∙ at .loop .inv .0,
       fed .take-whole .kept .1 .1 .0 ∙ at .loop .inv .1,
       read .read .kept .1 .0 ∙ at .loop .inv .2,
@@ -127,6 +167,8 @@ loop-again c =
       stepped-rows (memoryOf (at .loop .state) (at .loop .table) (at .loop .store)) _ _ _ _ _ _ (fed .take-whole .ensures .1) (at .loop .inv .4),
       at .loop .inv .5,
       at .loop .inv .6,
+      at .loop .inv .7,
+      went-on _ _ _ _ _ _ _ _ _ _ _ (at .loop .inv .8) some (fed .take-whole .ensures .0) (fed .take-whole .ensures .1),
     )
 
 same-length-9 : tie.Need-same-length-9 Inv-loop μ-loop
@@ -142,7 +184,7 @@ same-length-12 : tie.Need-same-length-12 Inv-loop μ-loop
 same-length-12 c = omega arith
 
 returns-3 : tie.Need-returns-3 Inv-loop μ-loop
-returns-3 c = search needs
+returns-3 c = looped-on _ _ _ _ _ (c .before .loop .inv .8) _
 
 pub run-spec : {M : Type 1} → statement M
 run-spec =
@@ -152,7 +194,6 @@ run-spec =
     μ-loop
     fresh-requires
     loop-holds
-    sub-turns
     read-requires
     count-requires
     end-requires
@@ -164,6 +205,7 @@ run-spec =
     slice-reshare-prefix-take-whole
     slice-aggregate-take-whole
     take-whole-requires
+    add-turns
     slice-reshare-prefix-write-all
     slice-aggregate-write-all
     write-all-requires

@@ -1,18 +1,42 @@
--- `monitor::event::judge_plain` meets its contract, kind by kind; a row without a stretch that is none of these kinds is true. Assumes nothing.
+-- `monitor::event::judge_plain` meets its contract, an arm for each thing that a row without a stretch says. Assumes nothing.
+use mathlib.Core.Bool.{false}
+use mathlib.Core.Path.{_≡_, sym, ap, _∙_}
 use borrow.Author.Needs.{needs}
-use Rattle.rules.specs.Kinds.{kindAt}
-use Rattle.monitor.proofs.RuleLaws.{other-rule}
+use Rattle.rules.specs.Kinds.{plain, ownsStretch, plainOf}
+use Rattle.rules.specs.Rows.{ruleOf}
+use Rattle.rules.specs.declared.numbers.Numbers.{Numbers}
+use Rattle.rules.specs.declared.plain.Plain.{Plain}
+use Rattle.rules.proofs.KindsLaws.{bare-rule}
 use Rattle.monitor.proofs.event.judge_plain.Statement.{statement}
 use Rattle.monitor.proofs.event.judge_plain.Tie as tie
 
+-- What the row says is what was looked up and told apart.
+rule-is : (n : Numbers) {found told : Plain} → ownsStretch (n .kind) ≡ false → found ≡ plainOf (ruleOf n) → found ≡ told → ruleOf n ≡ plain told
+rule-is n bare looked is = bare-rule (ruleOf n) bare ∙ ap plain (sym looked ∙ is)
+
+says-requires : tie.Need-says-requires
+says-requires c κs = search needs
+
+enum-told : tie.Need-enum-told
+enum-told c = search needs
+
+enum-told-2 : tie.Need-enum-told-2
+enum-told-2 c = search needs
+
 bit-set-requires : tie.Need-bit-set-requires
 bit-set-requires c κs = search needs
+
+enum-told-3 : tie.Need-enum-told-3
+enum-told-3 c = search needs
 
 truth-at-requires : tie.Need-truth-at-requires
 truth-at-requires c κs = search needs
 
 negation-requires : tie.Need-negation-requires
 negation-requires c κs = search needs
+
+enum-told-4 : tie.Need-enum-told-4
+enum-told-4 c = search needs
 
 truth-at-requires-2 : tie.Need-truth-at-requires-2
 truth-at-requires-2 c κs = search needs
@@ -23,6 +47,9 @@ truth-at-requires-3 c κs = search needs
 both-requires : tie.Need-both-requires
 both-requires c κs = search needs
 
+enum-told-5 : tie.Need-enum-told-5
+enum-told-5 c = search needs
+
 truth-at-requires-4 : tie.Need-truth-at-requires-4
 truth-at-requires-4 c κs = search needs
 
@@ -32,49 +59,56 @@ truth-at-requires-5 c κs = search needs
 either-requires : tie.Need-either-requires
 either-requires c κs = search needs
 
+enum-told-6 : tie.Need-enum-told-6
+enum-told-6 c = search needs
+
 previous-requires : tie.Need-previous-requires
 previous-requires c κs = search needs
 
 returns : tie.Need-returns
-unfolding kindAt
-returns c = λ table store spans. rw (c .before .match .keys1, c .bit-set .ensures)
+returns c = λ spans.
+    rw (rule-is (c .before .before .before .args .numbers) (c .before .before .before .pre .0) (c .before .before .says .ensures) (c .enum-told .given .1))
 
 returns-2 : tie.Need-returns-2
-unfolding kindAt
-returns-2 c = λ table store spans. rw (c .before .before .match .keys2, c .negation .ensures, c .before .truth-at .ensures)
+returns-2 c = λ spans.
+    rw (rule-is (c .before .before .before .before .args .numbers) (c .before .before .before .before .pre .0) (c .before .before .before .says .ensures) (c .before .enum-told2 .given .1), c .bit-set .ensures)
 
 returns-3 : tie.Need-returns-3
-unfolding kindAt
-returns-3 c = λ table store spans.
-    rw (c .before .before .before .match .keys3, c .both .ensures, c .before .truth-at3 .ensures, c .before .before .truth-at2 .ensures)
+returns-3 c = λ spans.
+    rw (rule-is (c .before .before .before .before .before .args .numbers) (c .before .before .before .before .before .pre .0) (c .before .before .before .before .says .ensures) (c .before .before .enum-told3 .given .1), c .negation .ensures, c .before .truth-at .ensures)
 
 returns-4 : tie.Need-returns-4
-unfolding kindAt
-returns-4 c = λ table store spans.
-    rw (c .before .before .before .match .keys4, c .either .ensures, c .before .truth-at5 .ensures, c .before .before .truth-at4 .ensures)
+returns-4 c = λ spans.
+    rw (rule-is (c .before .before .before .before .before .before .args .numbers) (c .before .before .before .before .before .before .pre .0) (c .before .before .before .before .before .says .ensures) (c .before .before .before .enum-told4 .given .1), c .both .ensures, c .before .truth-at3 .ensures, c .before .before .truth-at2 .ensures)
 
 returns-5 : tie.Need-returns-5
-unfolding kindAt
-returns-5 c = λ table store spans. rw (c .before .match .keys5, c .previous .ensures)
+returns-5 c = λ spans.
+    rw (rule-is (c .before .before .before .before .before .before .args .numbers) (c .before .before .before .before .before .before .pre .0) (c .before .before .before .before .before .says .ensures) (c .before .before .before .enum-told5 .given .1), c .either .ensures, c .before .truth-at5 .ensures, c .before .before .truth-at4 .ensures)
 
 returns-6 : tie.Need-returns-6
-returns-6 c = λ table store spans.
-    let none = c .match .rest in
-    rw (other-rule _ (c .before .pre .0) (none .0 .0 .0 .0 .1) (none .0 .0 .0 .1) (none .0 .0 .1) (none .0 .1) (none .1))
+returns-6 c = λ spans.
+    rw (rule-is (c .before .before .before .before .args .numbers) (c .before .before .before .before .pre .0) (c .before .before .before .says .ensures) (c .before .enum-told6 .given .1), c .previous .ensures)
 
 pub judge-plain-spec : {M : Type 1} → statement M
 judge-plain-spec =
     tie.close
     (tie.spec
+    says-requires
+    enum-told
+    enum-told-2
     bit-set-requires
+    enum-told-3
     truth-at-requires
     negation-requires
+    enum-told-4
     truth-at-requires-2
     truth-at-requires-3
     both-requires
+    enum-told-5
     truth-at-requires-4
     truth-at-requires-5
     either-requires
+    enum-told-6
     previous-requires
     returns
     returns-2

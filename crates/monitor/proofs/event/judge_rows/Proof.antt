@@ -5,39 +5,47 @@ use Prim.Native.Nat.{_-_, _≤_, _<_}
 use native.Mathlib.Omega.{arith}
 use lib.ListN.{length}
 use denote.Ref.{now}
+use borrow.Author.Needs.{needs}
 use Rattle.rules.specs.Limits.{rowLimit}
 use Rattle.rules.specs.Rows.{rowsOf}
 use Rattle.rules.specs.Stretches.{offset}
+use Rattle.monitor.specs.declared.record.Record.{Record}
 use Rattle.monitor.specs.Event.{truthsAfter, countsAfter, wordsDone, storeAfter}
-use Rattle.monitor.specs.Step.{event}
-use Rattle.monitor.specs.Core.{moment, AfterRows}
+use Rattle.monitor.specs.Step.{setupOf, event}
+use Rattle.monitor.specs.Core.{recordOf, moment, AfterRows}
 use Rattle.monitor.proofs.AcceptedLaws.{Accepted, accepted}
 use Rattle.monitor.proofs.TurnLaws.{length-after, row-ready, next-place, row-turn}
 use Rattle.monitor.proofs.event.judge_rows.Statement.{statement}
 use Rattle.monitor.proofs.event.judge_rows.Tie as tie
 
 abbrev Inv-loop : tie.InvT-loop
-Inv-loop table store₀ rows found time mask truths₀ counts₀ from₀ row₀ store truths counts from row =
-    (row ≤ rows) × (from ≡ offset table row) × AfterRows (moment table store₀ found time mask) row truths counts store
+Inv-loop table store₀ rows arrival found truths₀ counts₀ from₀ row₀ store truths counts from row =
+    (row ≤ rows)
+    × (from ≡ offset table row)
+    × AfterRows (moment table store₀ (recordOf (arrival .seen) (arrival .last) rows found counts₀) (arrival .time) (arrival .mask)) row truths counts store
 
 abbrev μ-loop : tie.MeasureT-loop
-μ-loop table store₀ rows found time mask truths₀ counts₀ from₀ row₀ store truths counts from row = rows - row
+μ-loop table store₀ rows arrival found truths₀ counts₀ from₀ row₀ store truths counts from row = rows - row
 
 loop-holds : tie.Need-loop-holds Inv-loop μ-loop
 unfolding offset truthsAfter countsAfter wordsDone storeAfter
 loop-holds c =
     let start = c .before .before in
-    (omega arith, refl, record { truths-are = start .pre .1 .1; counts-are = start .pre .1 .2; store-is = refl })
+    (omega arith, refl, record { truths-are = start .pre .1 .1; counts-are = refl; store-is = refl })
 
--- What was checked before.
-abbrev at-start : tie.At-loop Inv-loop μ-loop → tie.Start Inv-loop μ-loop
-at-start c = c .before .before .before
+-- What was checked before, and the record that it was checked of.
+module _ (c : tie.At-loop Inv-loop μ-loop) where
+  abbrev at-start : tie.Start Inv-loop μ-loop
+  at-start = c .before .before .before
 
-met : (c : tie.At-loop Inv-loop μ-loop)
-    → Accepted (now (at-start c .args .table)) (now (at-start c .args .store)) (at-start c .args .found) (at-start c .args .time)
-met c =
-    accepted (record { table = now (at-start c .args .table) }) (now (at-start c .args .store)) (at-start c .args .found)
-    (event (at-start c .args .time) (at-start c .args .mask)) (at-start c .pre .0)
+  abbrev kept : Record
+  kept =
+      recordOf (at-start .args .arrival .seen) (at-start .args .arrival .last) (at-start .args .rows) (now (at-start .args .found)) (now (at-start .args .counts))
+
+  met : Accepted (now (at-start .args .table)) (now (at-start .args .store)) kept (at-start .args .arrival .time)
+  met =
+      accepted (setupOf (now (at-start .args .table))) (now (at-start .args .store)) kept
+      (event (at-start .args .arrival .time) (at-start .args .arrival .mask)) (at-start .pre .0)
 
 lower : (c : tie.In-loop Inv-loop μ-loop) → c .before .loop .row < rowsOf (now (at-start (c .before) .args .table))
 lower c = omega (arith, at-start (c .before) .pre .1 .0)
@@ -45,33 +53,52 @@ lower c = omega (arith, at-start (c .before) .pre .1 .0)
 few : (c : tie.In-loop Inv-loop μ-loop) → c .before .loop .row < rowLimit
 few c = omega (arith, lower c, met (c .before) .ready .passes .few-rows)
 
+numbers-at-requires : tie.Need-numbers-at-requires Inv-loop μ-loop
+numbers-at-requires c κs = search needs
+
+mul-count : tie.Need-mul-count Inv-loop μ-loop
+mul-count c = omega (arith, few (c .before))
+
+element-copy-out-count : tie.Need-element-copy-out-count Inv-loop μ-loop
+element-copy-out-count c = few (c .before)
+
 judge-row-requires : tie.Need-judge-row-requires Inv-loop μ-loop
 judge-row-requires c κs =
-    let d = c .before .before in
-    row-ready _ _ _ _ _ (met (d .before)) (lower d) (d .before .loop .inv .1) (d .before .loop .inv .2)
+    let n = c .before .before .before in
+    let d = n .before in
+    row-ready _ _ _ _ _ (met (d .before)) (lower d) (d .before .loop .inv .1) (d .before .loop .inv .2) (n .numbers-at .ensures) refl
+
+byte-of-requires : tie.Need-byte-of-requires Inv-loop μ-loop
+byte-of-requires c κs = search needs
+
+abbrev turn-of : tie.After-byte-of Inv-loop μ-loop → tie.In-loop Inv-loop μ-loop
+turn-of c = c .before .before .before .before .before .before .before .before
 
 element-write-truths : tie.Need-element-write-truths Inv-loop μ-loop
-element-write-truths c = few (c .before .before .before .before .before)
+element-write-truths c = few (turn-of c)
 
 mul-counts : tie.Need-mul-counts Inv-loop μ-loop
-mul-counts c = omega (arith, few (c .before .before .before .before .before))
+mul-counts c = omega (arith, few (turn-of c))
 
 element-write-counts : tie.Need-element-write-counts Inv-loop μ-loop
-element-write-counts c = few (c .before .before .before .before .before)
+element-write-counts c = few (turn-of c)
 
 add-row : tie.Need-add-row Inv-loop μ-loop
-add-row c = omega (arith, few (c .before .before .before .before .before))
+add-row c = omega (arith, few (turn-of c))
 
 loop-less : tie.Need-loop-less Inv-loop μ-loop
 loop-less c = omega arith
 
 loop-again : tie.Need-loop-again Inv-loop μ-loop
 loop-again c =
-    let j = c .before .before in
-    let d = j .before .before .before in (
+    let j = c .before .before .before in
+    let n = j .before .before .before .before in
+    let d = n .before in (
       omega arith,
-      next-place _ _ _ _ _ (met (d .before)) (lower d) (d .before .loop .inv .1) (d .before .loop .inv .2) (j .judge-row .ensures),
-      row-turn _ _ _ _ _ (met (d .before)) (lower d) (d .before .loop .inv .1) (d .before .loop .inv .2) (j .judge-row .ensures),
+      next-place _ _ _ _ _ (met (d .before)) (lower d) (d .before .loop .inv .1) (d .before .loop .inv .2) (n .numbers-at .ensures) refl
+          (j .judge-row .ensures) (c .byte-of .ensures),
+      row-turn _ _ _ _ _ (met (d .before)) (lower d) (d .before .loop .inv .1) (d .before .loop .inv .2) (n .numbers-at .ensures) refl
+          (j .judge-row .ensures) (c .byte-of .ensures),
     )
 
 same-length : tie.Need-same-length Inv-loop μ-loop
@@ -91,7 +118,11 @@ judge-rows-spec =
     Inv-loop
     μ-loop
     loop-holds
+    numbers-at-requires
+    mul-count
+    element-copy-out-count
     judge-row-requires
+    byte-of-requires
     element-write-truths
     mul-counts
     element-write-counts

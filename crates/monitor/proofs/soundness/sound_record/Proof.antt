@@ -1,79 +1,81 @@
 -- `monitor::soundness::sound_record` meets its contract: the first test that fails decides. Assumes nothing.
-use mathlib.Core.Bool.{_||_}
+use mathlib.Core.Bool.{true}
 use mathlib.Core.Path.{_≡_, sym, _∙_}
-use Prim.Native.Nat.{_≤_}
-use lib.Dec.{eqb, leb}
+use native.Mathlib.Omega.{arith}
 use denote.Ref.{now}
 use borrow.Author.Needs.{needs}
-use borrow.Author.Tests.{leb-true}
 use Rattle.rules.specs.Rows.{rowsOf}
-use Rattle.rules.proofs.Truths.{and-right}
-use Rattle.monitor.specs.Record.{timeLimit}
-use Rattle.monitor.proofs.SoundnessLaws.{unsound-rows, unsound-entries, unsound-time, sound-by-stretches}
+use Rattle.monitor.specs.declared.record.Record.{Record}
+use Rattle.monitor.specs.Core.{recordOf}
+use Rattle.monitor.specs.Soundness.{every, soundRow?, soundTime?}
+use Rattle.monitor.proofs.ReadyLaws.{ready-none}
+use Rattle.monitor.proofs.SoundnessLaws.{time-within, rows-counted, unsound-count, unsound-time, unsound-row, sound-by-past}
 use Rattle.monitor.proofs.soundness.sound_record.Statement.{statement}
 use Rattle.monitor.proofs.soundness.sound_record.Tie as tie
 
-cast-if1 : tie.Need-cast-if1
-cast-if1 c = search needs
+-- The row count is the table's from here on; then the time is in order too.
+module _ (c : tie.Else1) where
+  abbrev at-start : tie.Start
+  at-start = c .before .before .before
+
+  abbrev kept : Record
+  kept =
+      recordOf (at-start .args .seen) (at-start .args .time) (at-start .args .count) (now (at-start .args .truths)) (now (at-start .args .counts))
+
+  counted : at-start .args .count ≡ rowsOf (now (at-start .args .table))
+  counted = c .if1 .left ∙ at-start .pre .1
 
 returns : tie.Need-returns
-returns c = sym (unsound-rows _ _ _ (λ same. c .if1 .taken (same ∙ sym (c .before .before .before .before .pre .1))))
-
-sound-entries-requires : tie.Need-sound-entries-requires
-sound-entries-requires c κs = search needs
+returns c = sym (unsound-count _ _ _ (λ same. c .if1 .taken (same ∙ sym (c .before .before .before .pre .1))))
 
 sound-time-requires : tie.Need-sound-time-requires
 sound-time-requires c κs = search needs
 
-abbrev at-start : tie.Else1 → tie.Start
-at-start c = c .before .before .before .before
+timely : (c : tie.Then2) → soundTime? (at-start (c .before .before) .args .seen) (at-start (c .before .before) .args .time) ≡ true
+timely c = sym (c .before .sound-time .ensures) ∙ c .if2 .taken
 
-rows : (c : tie.Else1) → at-start c .args .found .rows ≡ rowsOf (now (at-start c .args .table))
-rows c = c .if1 .left ∙ at-start c .pre .1
+sound-rows-requires : tie.Need-sound-rows-requires
+sound-rows-requires c κs =
+    let start = at-start (c .before .before) in
+    (start .pre .0, (start .pre .1, time-within (start .args .seen) (start .args .time) (timely c)))
 
-sound-stretches-requires : tie.Need-sound-stretches-requires
-sound-stretches-requires c κs =
-    let found = at-start (c .before .before .before .before) .args .found in
-    let early : found .time ≤ timeLimit =
-    leb-true _ _
-    (and-right (found .seen || eqb (found .time) 0) (leb (found .time) timeLimit) (sym (c .before .sound-time .ensures) ∙ c .if3 .taken))
-    in
-    (at-start (c .before .before .before .before) .pre .0, (at-start (c .before .before .before .before) .pre .1, early))
+rows-told : (c : tie.After-sound-rows)
+    → every (rowsOf (now (at-start (c .before .before .before) .args .table)))
+    (soundRow? (now (at-start (c .before .before .before) .args .table)) (now (at-start (c .before .before .before) .args .store))
+    (kept (c .before .before .before)))
+    ≡ c .sound-rows .result
+rows-told c =
+    let e = c .before .before .before in
+    rows-counted _ _ _ _ _ _ _ _ (e .if1 .left) (at-start e .pre .1) (c .sound-rows .ensures)
+
+zero-past-requires : tie.Need-zero-past-requires
+zero-past-requires c κs =
+    let start = at-start (c .before .before .before .before) in
+    omega (arith, start .pre .1, ready-none _ _ (start .pre .0) .passes .few-rows)
 
 returns-2 : tie.Need-returns-2
 returns-2 c =
-    let d = c .before .before .before in
-    sound-by-stretches _ _ _
-    (rows (d .before .before))
-    (sym (d .before .sound-entries .ensures) ∙ d .if2 .taken)
-    (c .before .before .sound-time .ensures)
-    (c .before .if3 .taken)
-    (at-start (d .before .before) .pre .1)
-    (c .sound-stretches .ensures)
+    let r = c .before .before in
+    let e = r .before .before .before in
+    rw (c .zero-past .ensures, at-start e .pre .1)
+    (sound-by-past _ _ _ (counted e) (timely (r .before)) (rows-told r ∙ c .before .if3 .taken))
 
 returns-3 : tie.Need-returns-3
 returns-3 c =
-    let d = c .before .before in
-    sym
-    (unsound-time _ _ _
-    (rows (d .before .before))
-    (sym (d .before .sound-entries .ensures) ∙ d .if2 .taken)
-    (c .before .sound-time .ensures)
-    (c .if3 .left))
+    let r = c .before in
+    sym (unsound-row _ _ _ (counted (r .before .before .before)) (timely (r .before)) (rows-told r ∙ c .if3 .left))
 
 returns-4 : tie.Need-returns-4
-returns-4 c =
-    sym (unsound-entries _ _ _ (rows (c .before .before)) (sym (c .before .sound-entries .ensures) ∙ c .if2 .left))
+returns-4 c = sym (unsound-time _ _ _ (counted (c .before .before)) (sym (c .before .sound-time .ensures) ∙ c .if2 .left))
 
 pub sound-record-spec : {M : Type 1} → statement M
 sound-record-spec =
     tie.close
     (tie.spec
-    cast-if1
     returns
-    sound-entries-requires
     sound-time-requires
-    sound-stretches-requires
+    sound-rows-requires
+    zero-past-requires
     returns-2
     returns-3
     returns-4)

@@ -6,7 +6,7 @@ use native.Mathlib.Omega.{arith}
 use borrow.Author.Needs.{needs}
 use borrow.Rule.Slice.PartMut.{mid-len, post-is}
 use lib.ListN.{length}
-use Rattle.rules.specs.Table.{said}
+use Rattle.rules.specs.Table.{checkReply}
 use Rattle.monitor.specs.Start.{startOf}
 use Rattle.monitor.proofs.ReadyLaws.{ready-room}
 use Rattle.monitor.proofs.start.start.Statement.{statement}
@@ -17,7 +17,7 @@ abbrev words-needed : tie.After-known-told2 → ℕ
 words-needed c = c .before .checked2 .given .0 .1 .0
 
 need-fits : (c : tie.After-known-told2) → words-needed c ≤ length (c .before .before .before .before .before .before .args .store .now)
-need-fits c = ready-room _ _ _ _ (sym (c .before .before .before .ready .ensures) ∙ ap said (c .before .checked2 .given .1))
+need-fits c = ready-room _ _ _ _ (sym (c .before .before .before .ready .ensures) ∙ ap checkReply (c .before .checked2 .given .1))
 
 ready-requires : tie.Need-ready-requires
 ready-requires c κs = search needs

@@ -4,37 +4,44 @@ use native.Mathlib.Omega.{arith}
 use denote.Ref.{now}
 use borrow.Author.Needs.{needs}
 use Rattle.rules.specs.Limits.{rowLimit}
-use Rattle.monitor.specs.Step.{event}
+use Rattle.monitor.specs.Step.{setupOf, event}
+use Rattle.monitor.specs.Core.{recordOf}
 use Rattle.monitor.proofs.AcceptedLaws.{accepted}
-use Rattle.monitor.proofs.StepLaws.{step-accepted}
+use Rattle.monitor.proofs.StepLaws.{left-accepted}
 use Rattle.monitor.proofs.step.accept.Statement.{statement}
 use Rattle.monitor.proofs.step.accept.Tie as tie
 
 judge-rows-requires : tie.Need-judge-rows-requires
 judge-rows-requires c κs = search needs
 
-abbrev at-start : tie.After-slice-known2 → tie.Start
-at-start c = c .before .before .before .before .before .before .before .before .before .before
+module _ (c : tie.After-slice-known2) where
+  abbrev at-start : tie.Start
+  at-start = c .before .before .before .before .before .before .before .before .before .before
 
-rows : (c : tie.After-slice-known2) → (1 ≤ at-start c .args .rows) × (at-start c .args .rows ≤ rowLimit)
-rows c =
-    let passes =
-    accepted (record { table = now (at-start c .args .table) }) (now (at-start c .args .store)) (at-start c .args .found)
-    (event (at-start c .args .time) (at-start c .args .mask)) (at-start c .pre .0) .ready .passes
-    in
-    (omega (arith, at-start c .pre .1, passes .some-row), omega (arith, at-start c .pre .1, passes .few-rows))
+  rows : (1 ≤ at-start .args .rows) × (at-start .args .rows ≤ rowLimit)
+  rows =
+      let args = at-start .args in
+      let passes =
+      accepted (setupOf (now (args .table))) (now (args .store))
+      (recordOf (args .arrival .seen) (args .arrival .last) (args .rows) (now (args .truths)) (now (args .counts)))
+      (event (args .arrival .time) (args .arrival .mask)) (at-start .pre .0) .ready .passes
+      in
+      (omega (arith, at-start .pre .1, passes .some-row), omega (arith, at-start .pre .1, passes .few-rows))
 
-sub-t14 : tie.Need-sub-t14
-sub-t14 c = omega (arith, rows c)
+sub-t15 : tie.Need-sub-t15
+sub-t15 c = omega (arith, rows c)
 
-array-read-t17 : tie.Need-array-read-t17
-array-read-t17 c = omega (arith, rows c)
+element-copy-out-t18 : tie.Need-element-copy-out-t18
+element-copy-out-t18 c = omega (arith, rows c)
 
 same-length : tie.Need-same-length
 same-length c = search needs
 
 returns : tie.Need-returns
-returns c = step-accepted _ _ _ _ _ _ _ _ _ (at-start c .pre .0) (at-start c .pre .1) (c .before .before .judge-rows .ensures)
+returns c =
+    let start = at-start (c .before) in
+    left-accepted _ _ _ _ _ _ _ _ _ (start .pre .0) (start .pre .1) (c .before .before .before .judge-rows .ensures)
 
 pub accept-spec : {M : Type 1} → statement M
-accept-spec = tie.close (tie.spec judge-rows-requires sub-t14 array-read-t17 same-length returns)
+accept-spec =
+    tie.close (tie.spec judge-rows-requires sub-t15 element-copy-out-t18 same-length returns)

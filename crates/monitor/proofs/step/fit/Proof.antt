@@ -1,7 +1,7 @@
 -- `monitor::step::fit` meets its contract: what `ready` answered, then the test of the record. Assumes nothing.
 use mathlib.Core.Path.{sym, ap, _∙_}
 use borrow.Author.Needs.{needs}
-use Rattle.rules.specs.Table.{said}
+use Rattle.rules.specs.Table.{checkReply}
 use Rattle.monitor.specs.Core.{fitOf}
 use Rattle.monitor.proofs.ReadyLaws.{ready-gives}
 use Rattle.monitor.proofs.step.fit.Statement.{statement}
@@ -21,7 +21,7 @@ cast-sound-record c = search needs
 
 sound-record-requires : tie.Need-sound-record-requires
 sound-record-requires c κs =
-    let passes = sym (c .before .before .before .ready .ensures) ∙ ap said (c .before .checked2 .given .1) in
+    let passes = sym (c .before .before .before .ready .ensures) ∙ ap checkReply (c .before .checked2 .given .1) in
     (rw passes, ready-gives _ _ _ _ passes .passes .counted)
 
 returns : tie.Need-returns

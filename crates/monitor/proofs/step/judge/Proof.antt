@@ -1,48 +1,72 @@
--- `monitor::step::judge` meets its contract: the time is over the limit, or below the last, or the rows are judged. Assumes nothing.
+-- `monitor::step::judge` meets its contract: a refusal 1 to 4 or 7, or what `judge_sound` says. Assumes nothing.
+use mathlib.Core.Path.{_≡_, sym, ap, _∙_}
+use denote.Ref.{now}
 use borrow.Author.Needs.{needs}
-use Rattle.monitor.proofs.StepLaws.{step-refused, late, earlier, unrefused}
+use Rattle.rules.specs.Table.{checkReply}
+use Rattle.monitor.specs.declared.record.Record.{Record}
+use Rattle.monitor.specs.Core.{recordOf}
+use Rattle.monitor.proofs.SoundnessLaws.{sound-parts}
+use Rattle.monitor.proofs.StepLaws.{left-refused, fit-refused, Fit, fit-gives}
 use Rattle.monitor.proofs.step.judge.Statement.{statement}
 use Rattle.monitor.proofs.step.judge.Tie as tie
 
-refuse-requires : tie.Need-refuse-requires
-refuse-requires c κs = search needs
+fit-requires : tie.Need-fit-requires
+fit-requires c κs = search needs
 
-returns : tie.Need-returns
-returns c =
-    let start = c .before .before .before .before in
-    rw (c .refuse .ensures .0, c .refuse .ensures .1)
-    (step-refused _ _ _ _ _ (late _ _ _ _ (start .pre .0 .0) (start .pre .1) (c .before .if1 .taken)))
+enum-known-checked : tie.Need-enum-known-checked
+enum-known-checked c = search needs
 
-refuse-requires-2 : tie.Need-refuse-requires-2
-refuse-requires-2 c κs = search needs
+enum-known-checked-2 : tie.Need-enum-known-checked-2
+enum-known-checked-2 c = search needs
 
-returns-2 : tie.Need-returns-2
-returns-2 c =
-    let d = c .before .before .before in
-    let start = d .before .before .before in
-    rw (c .refuse2 .ensures .0, c .refuse2 .ensures .1)
-    (step-refused _ _ _ _ _ (earlier _ _ _ _ (start .pre .0 .0) (start .pre .1) (d .if1 .left) (c .before .if2 .taken)))
+-- The record fits, and so its row count is the table's.
+module _ (c : tie.After-known-told2) where
+  abbrev at-start : tie.Start
+  at-start = c .before .before .before .before .before .before .before .before .before
 
-accept-requires : tie.Need-accept-requires
-accept-requires c κs =
-    let d = c .before .before .before in
-    let start = d .before .before .before in
-    (unrefused _ _ _ _ (start .pre .0 .0) (start .pre .1) (d .if1 .left) (c .before .if2 .left), start .pre .0 .1)
+  abbrev kept : Record
+  kept =
+      recordOf (at-start .args .arrival .seen) (at-start .args .arrival .last) (at-start .args .count) (now (at-start .args .truths)) (now (at-start .args .counts))
+
+  fits : Fit (now (at-start .args .table)) (now (at-start .args .store)) kept (c .before .checked2 .given .0 .0)
+  fits = fit-gives _ _ _ _ _ (sym (ap checkReply (c .before .checked2 .given .1)) ∙ c .before .before .before .fit .ensures)
+
+  counted : at-start .args .count ≡ c .before .checked2 .given .0 .0
+  counted = sound-parts _ _ _ (fits .sound) .counted ∙ sym (fits .counted)
+
+cast-judge-sound : tie.Need-cast-judge-sound
+cast-judge-sound c = search needs
+
+judge-sound-requires : tie.Need-judge-sound-requires
+judge-sound-requires c κs =
+    let known = c .before .before .before in
+    ((fits known .ready, fits known .counted), rw (← (counted known)) (fits known .sound))
 
 same-length : tie.Need-same-length
 same-length c = search needs
 
-returns-3 : tie.Need-returns-3
-returns-3 c = search needs
+returns : tie.Need-returns
+returns c =
+    left-refused _ _ _ _ _ (fit-refused _ _ _ _ _ (sym (ap checkReply (c .before .checked .given .1)) ∙ c .before .before .before .fit .ensures))
+
+same-length-2 : tie.Need-same-length-2
+same-length-2 c = search needs
+
+returns-2 : tie.Need-returns-2
+returns-2 c =
+    let j = c .before .before in
+    rw (counted (j .before .before .before .before)) (j .judge-sound .ensures)
 
 pub judge-spec : {M : Type 1} → statement M
 judge-spec =
     tie.close
     (tie.spec
-    refuse-requires
-    returns
-    refuse-requires-2
-    returns-2
-    accept-requires
+    fit-requires
+    enum-known-checked
+    enum-known-checked-2
+    cast-judge-sound
+    judge-sound-requires
     same-length
-    returns-3)
+    returns
+    same-length-2
+    returns-2)

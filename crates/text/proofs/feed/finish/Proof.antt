@@ -8,7 +8,7 @@ use borrow.Author.Tests.{le-leb, lt-leb}
 use lib.Dec.{leb}
 use lib.ListN.{length}
 use Rattle.text.specs.Replies.{longestReply}
-use Rattle.text.specs.Feed.{endOf}
+use Rattle.text.specs.Feed.{textEnd}
 use Rattle.text.proofs.WroteLaws.{wrote-none}
 use Rattle.text.proofs.feed.finish.Statement.{statement}
 use Rattle.text.proofs.feed.finish.Tie as tie
@@ -25,7 +25,7 @@ same-length : tie.Need-same-length
 same-length c = search needs
 
 returns-2 : tie.Need-returns-2
-unfolding endOf
+unfolding textEnd
 returns-2 c =
     let told = c .before .before in
     let out = told .before .before .before .before .before .before .args .out .now in

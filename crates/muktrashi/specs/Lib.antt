@@ -1,0 +1,2 @@
+-- What the program's loop comes to.
+pub mod Loop

@@ -1,0 +1,196 @@
+-- Frame times are true times where only frames move the time. By induction over the calls, from any state where the stream's invariant holds: an event
+-- leaves the clock where it is, and the time of a frame that is kept is its true time, which is then the clock. A refused call leaves all as it was.
+use mathlib.Core.Bool.{cond}
+use mathlib.Core.List.{List, [], _∷_, _++_, map}
+use mathlib.Core.Path.{_≡_, refl, sym, ap, subst, _∙_}
+use Prim.Native.Nat.{ℕ, _-_, _≤_, _<_}
+use native.Mathlib.Omega.{arith}
+use lib.Dec.{T}
+use Rattle.meaning.specs.FrameTime.{turn, counterOf, Close, TrueTimes}
+use Rattle.meaning.specs.History.{History, lastTime}
+use Rattle.meaning.proofs.FrameTimeLaws.{frame-time-true}
+use Rattle.refusals.specs.Refusals.{Refused}
+use Rattle.times.specs.Times.{timeLimit}
+use Rattle.monitor.specs.Step.{Call, event, frame, timeOf, Reply, verdict, refusal}
+use Rattle.promises.specs.Stream.{State, call, next, started, Keeps, keeps?, eventOf, kept}
+use Rattle.promises.specs.AsIfNotMade.{judged}
+use Rattle.promises.specs.LineTimes.{replies, recordTimes, Every, acceptedTimes}
+use Rattle.promises.specs.FrameTimes.{frameCounters, ofFrames, FrameTimesAreTrue}
+use Rattle.promises.proofs.Invariant.{Invariant}
+use Rattle.promises.proofs.StreamLaws.{keeps-cases}
+use Rattle.promises.proofs.StartRight.{start-right}
+use Rattle.promises.proofs.CallKept.{kept-reply, only-kept, next-kept}
+
+-- True times go on from 0.
+true-close : (times : List ℕ) → TrueTimes times → Close 0 times
+unfolding TrueTimes Close
+true-close [] true-times = tt
+true-close (time ∷ times) (first, close) = (omega arith, omega arith, close)
+
+-- Call by call, the counter of a frame is that of its true time.
+data Counted : List Call → List ℕ → Type 0 where
+  no-call : Counted [] []
+  an-event : {time mask : ℕ} {calls : List Call} {times : List ℕ} → Counted calls times → Counted (event time mask ∷ calls) times
+  a-frame : {counter mask time : ℕ} {calls : List Call} {times : List ℕ}
+      → counter ≡ counterOf time
+      → Counted calls times
+      → Counted (frame counter mask ∷ calls) (time ∷ times)
+
+counted : (calls : List Call) (times : List ℕ) → frameCounters calls ≡ map counterOf times → Counted calls times
+unfolding frameCounters
+counted [] [] same = no-call
+counted [] (time ∷ times) same = let clash : _≡_ {A = ℕ} 0 1 = cc in absurd (omega arith)
+counted (event time mask ∷ calls) times same = an-event (counted calls times same)
+counted (frame counter mask ∷ calls) [] same = let clash : _≡_ {A = ℕ} 0 1 = cc in absurd (omega arith)
+counted (frame counter mask ∷ calls) (time ∷ times) same =
+    let here : counter ≡ counterOf time = cc in a-frame here (counted calls times (cc))
+
+-- The history after a call.
+abbrev heard : History → Call → History
+heard h c = cond (keeps? (lastTime h) c) (eventOf (lastTime h) c ∷ h) h
+
+-- Only frames move the time, from a history on.
+abbrev OnlyFramesFrom : History → List Call → Type 0
+OnlyFramesFrom h calls = (before later : List Call) (time mask : ℕ)
+    → calls ≡ before ++ (event time mask ∷ later)
+    → Keeps (lastTime (kept h before)) (event time mask)
+    → time ≡ lastTime (kept h before)
+
+only-later : (h : History) (c : Call) (calls : List Call) → OnlyFramesFrom h (c ∷ calls) → OnlyFramesFrom (heard h c) calls
+unfolding kept
+only-later h c calls only before later time mask same =
+    only (c ∷ before) later time mask (ap (λ (rest : List Call). c ∷ rest) same)
+
+event-stays : (h : History) (time mask : ℕ) (calls : List Call)
+    → OnlyFramesFrom h (event time mask ∷ calls)
+    → lastTime (heard h (event time mask)) ≡ lastTime h
+unfolding kept
+event-stays h time mask calls only =
+    keeps-cases (λ keeps. lastTime (cond keeps (eventOf (lastTime h) (event time mask) ∷ h) h) ≡ lastTime h) (lastTime h) (event time mask)
+    (λ keeps. only [] calls time mask refl keeps)
+    (λ over. refl)
+    (λ within below. refl)
+
+heard-kept : (h : History) (c : Call) → Keeps (lastTime h) c → heard h c ≡ eventOf (lastTime h) c ∷ h
+heard-kept h c keeps =
+    keeps-cases (λ keeps. cond keeps (eventOf (lastTime h) c ∷ h) h ≡ eventOf (lastTime h) c ∷ h) (lastTime h) c
+    (λ so. refl)
+    (λ over. absurd (omega (arith, keeps .within)))
+    (λ within below. absurd (omega (arith, keeps .risen)))
+
+-- One call more.
+module _ {table : List ℕ} {h : History} {s : State} (inv : Invariant table h (lastTime h) s) where
+  on : (c : Call) → Invariant table (heard h c) (lastTime (heard h c)) (next table s c)
+  on c = next-kept table h s inv c (heard h c) refl
+
+  heard-refused : (c : Call) {fault : Refused} → call table s c .reply ≡ refusal fault → heard h c ≡ h
+  heard-refused c refused =
+      keeps-cases (λ keeps. cond keeps (eventOf (lastTime h) c ∷ h) h ≡ h) (lastTime h) c
+      (λ keeps. let judged = kept-reply inv c keeps in let clash : _≡_ {A = ℕ} 0 1 = cc in absurd (omega arith))
+      (λ over. refl)
+      (λ within below. refl)
+
+  -- A frame with the counter of a time that did not fall, after a gap of less than a turn: its time is that time, and where it is kept, the record's.
+  module _ (counter mask time : ℕ) (same : counter ≡ counterOf time) (risen : lastTime h ≤ time) (gap : time - lastTime h < turn) where
+    is-true : timeOf (lastTime h) (frame counter mask) ≡ time
+    is-true = rw same (frame-time-true (lastTime h) time risen gap)
+
+    keeps : time ≤ timeLimit → Keeps (lastTime h) (frame counter mask)
+    keeps within = record { within = omega (arith, is-true); risen = omega (arith, is-true) }
+
+    moves : Keeps (lastTime h) (frame counter mask) → lastTime (heard h (frame counter mask)) ≡ time
+    moves kept = ap lastTime (heard-kept h (frame counter mask) kept) ∙ is-true
+
+    timed : Keeps (lastTime h) (frame counter mask) → next table s (frame counter mask) .found .time ≡ time
+    timed kept = on (frame counter mask) .time ∙ moves kept
+
+module _ (table : List ℕ) where
+  abbrev AllTrue : State → List Call → List ℕ → Type 0
+  AllTrue s calls times =
+      Every (λ (reply : Reply). T (judged reply)) (ofFrames calls (replies table s calls)) × (ofFrames calls (recordTimes table s calls) ≡ times)
+
+  all-true : {h : History} {s : State} {calls : List Call} {times : List ℕ}
+      → Invariant table h (lastTime h) s
+      → OnlyFramesFrom h calls
+      → Counted calls times
+      → Close (lastTime h) times
+      → Every (λ (time : ℕ). time ≤ timeLimit) times
+      → AllTrue s calls times
+  unfolding replies recordTimes ofFrames Close
+  all-true inv only no-call close within = (tt, refl)
+  all-true {h} inv only (an-event {time} {mask} {calls} {times} others) close within =
+      all-true (on inv (event time mask)) (only-later h (event time mask) calls only) others
+      (subst (λ (last : ℕ). Close last times) (sym (event-stays h time mask calls only)) close) within
+  all-true {h} {s} inv only (a-frame {counter} {mask} {time} {calls} {times} same others) (risen, gap, close) (early, within) =
+      let c = frame counter mask in
+      let kept = keeps inv counter mask time same risen gap early in
+      let rest : AllTrue (next table s c) calls times =
+      all-true (on inv c) (only-later h c calls only) others
+      (subst (λ (last : ℕ). Close last times) (sym (moves inv counter mask time same risen gap kept)) close) within
+      in
+      ((rw (kept-reply inv c kept) tt, rest .0), rw (timed inv counter mask time same risen gap kept, rest .1))
+
+  -- Where the times of those that are accepted go on from the clock, the record has them.
+  abbrev AcceptedTrue : List Call → List ℕ → Type 0
+  AcceptedTrue calls times =
+      (h : History) (s : State)
+      → Invariant table h (lastTime h) s
+      → OnlyFramesFrom h calls
+      → Close (lastTime h) (acceptedTimes (ofFrames calls (replies table s calls)) times)
+      → acceptedTimes (ofFrames calls (replies table s calls)) (ofFrames calls (recordTimes table s calls))
+      ≡ acceptedTimes (ofFrames calls (replies table s calls)) times
+
+  frame-more : (counter mask : ℕ) (calls : List Call) (time : ℕ) (times : List ℕ)
+      → counter ≡ counterOf time
+      → AcceptedTrue calls times
+      → AcceptedTrue (frame counter mask ∷ calls) (time ∷ times)
+  unfolding replies recordTimes ofFrames acceptedTimes Close
+  frame-more counter mask calls time times same more h s inv only = go (call table s c .reply) refl
+    where
+      c : Call
+      c = frame counter mask
+
+      answered : List Reply
+      answered = ofFrames (c ∷ calls) (replies table s (c ∷ calls))
+
+      later : (last : ℕ)
+          → lastTime (heard h c) ≡ last
+          → Close last (acceptedTimes (ofFrames calls (replies table (next table s c) calls)) times)
+          → acceptedTimes (ofFrames calls (replies table (next table s c) calls)) (ofFrames calls (recordTimes table (next table s c) calls))
+          ≡ acceptedTimes (ofFrames calls (replies table (next table s c) calls)) times
+      later last is close =
+          more (heard h c) (next table s c) (on inv c) (only-later h c calls only)
+          (subst (λ (from : ℕ). Close from (acceptedTimes (ofFrames calls (replies table (next table s c) calls)) times)) (sym is) close)
+
+      go : (reply : Reply)
+          → call table s c .reply ≡ reply
+          → Close (lastTime h) (acceptedTimes answered (time ∷ times))
+          → acceptedTimes answered (ofFrames (c ∷ calls) (recordTimes table s (c ∷ calls))) ≡ acceptedTimes answered (time ∷ times)
+      go (verdict holds) e close =
+          let (risen, gap, further) = rw e at close in
+          let kept = only-kept inv c holds e in
+          rw (e, timed inv counter mask time same risen gap kept)
+          (ap (λ (rest : List ℕ). time ∷ rest) (later time (moves inv counter mask time same risen gap kept) further))
+      go (refusal fault) e close = rw e (later (lastTime h) (ap lastTime (heard-refused inv c e)) (rw e at close))
+
+  accepted-true : {calls : List Call} {times : List ℕ} → Counted calls times → AcceptedTrue calls times
+  unfolding replies recordTimes ofFrames acceptedTimes
+  accepted-true no-call = λ h s inv only close. refl
+  accepted-true (an-event {time} {mask} {calls} {times} others) =
+      λ h s inv only close.
+      accepted-true others (heard h (event time mask)) (next table s (event time mask)) (on inv (event time mask))
+      (only-later h (event time mask) calls only)
+      (subst (λ (last : ℕ). Close last (acceptedTimes (ofFrames calls (replies table (next table s (event time mask)) calls)) times))
+      (sym (event-stays h time mask calls only)) close)
+  accepted-true (a-frame {counter} {mask} {time} {calls} {times} same others) =
+      frame-more counter mask calls time times same (accepted-true others)
+
+pub frame-times-are-true : FrameTimesAreTrue
+unfolding kept
+frame-times-are-true table store calls times starts only same =
+    let begun : Invariant table [] 0 (started table store) = start-right table store starts in
+    let call-by-call = counted calls times same in
+    record {
+      all = λ true-times. all-true table begun only call-by-call (true-close times true-times);
+      accepted-ones = λ true-times. accepted-true table call-by-call [] (started table store) begun only (true-close _ true-times);
+    }

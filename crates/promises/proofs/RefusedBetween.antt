@@ -1,0 +1,133 @@
+-- An accepted attempt is answered and leaves what the call of the stream, which is lent every word, is answered and leaves: it was lent the need, and
+-- no other word matters or is written (`spare-words`). A refused one leaves the state (`refused-leaves`). By induction over the attempts.
+use mathlib.Core.Bool.{Bool}
+use mathlib.Core.List.{List, [], _∷_, _++_, append-assoc}
+use mathlib.Core.Path.{_≡_, refl, sym, ap, subst, _∙_}
+use Prim.Native.Nat.{ℕ, _≤_}
+use native.Mathlib.Omega.{arith}
+use lib.ListN.{length, take, drop, length-take, take-append-drop}
+use lib.Seq.{take-take, drop-append-le}
+use Rattle.refusals.specs.Refusals.{Refused}
+use Rattle.rules.specs.Stretches.{needOf}
+use Rattle.monitor.specs.Step.{setupOf, Reply, verdict, refusal, stepOf, refusalOf, momentOf}
+use Rattle.promises.specs.Stream.{State, call, next, after}
+use Rattle.promises.specs.LeftOut.{answers, end, others, otherAnswers}
+use Rattle.promises.specs.AsIfNotMade.{Attempt, attempt, leaves, attempts}
+use Rattle.promises.specs.SpareWords.{SameNeeded, Alike}
+use Rattle.promises.specs.LineTimes.{replies}
+use Rattle.promises.specs.RefusedBetween.{acceptedCalls, WithTable, AcceptedWith, RefusedBetween}
+use Rattle.promises.proofs.Refusing.{Accepted, accepted-of}
+use Rattle.promises.proofs.SoundIsKept.{verdict-passes}
+use Rattle.promises.proofs.AsIfNotMade.{refused-leaves}
+use Rattle.promises.proofs.SpareWords.{spare-words}
+
+-- Words that were lent, with the rest of the store put back after them: where the words from a number on are as they were, and those before are
+-- those of another list that has the store's from there on, it is that list.
+put-back : (n size : ℕ) (store after whole : List ℕ)
+    → n ≤ length (take size store)
+    → take n after ≡ take n whole
+    → drop n after ≡ drop n (take size store)
+    → drop n whole ≡ drop n store
+    → after ++ drop size store ≡ whole
+put-back n size store after whole within first lent spare =
+    ap (λ (words : List ℕ). words ++ drop size store) (sym (take-append-drop n after))
+    ∙ rw (first, lent, append-assoc, ← drop-append-le n (take size store) (drop size store) within, take-append-drop size store, ← spare)
+    (take-append-drop n whole)
+
+-- One accepted attempt with the stream's table.
+module _ (table : List ℕ) (s : State) (t : Attempt) (holds : Bool) (with-table : WithTable table t) (judged : attempt s t .reply ≡ verdict holds) where
+  abbrev lent : List ℕ
+  lent = take (t .size) (s .store)
+
+  room : needOf table ≤ length lent
+  unfolding stepOf
+  room =
+      let m = momentOf (setupOf table) lent (s .found) (t .made) in
+      let accepted : Accepted (setupOf table) lent (s .found) (t .made) =
+      accepted-of (setupOf table) lent (s .found) (t .made)
+      (verdict-passes (setupOf table) lent (s .found) m (refusalOf (setupOf table) lent (s .found) (t .made)) holds (rw with-table at judged))
+      in
+      accepted .ready .room
+
+  same-needed : SameNeeded table lent (s .store)
+  same-needed =
+      let size = length-take (t .size) (s .store) in
+      record {
+        room = room;
+        other-room = omega (arith, room);
+        words = take-take (needOf table) (t .size) (s .store) (omega (arith, room));
+      }
+
+  alike : Alike (setupOf table) lent (s .store) (s .found) (t .made)
+  alike = spare-words .call (setupOf table) lent (s .store) (s .found) (t .made) same-needed
+
+  all-alike : Alike (setupOf table) (s .store) (s .store) (s .found) (t .made)
+  all-alike =
+      spare-words .call (setupOf table) (s .store) (s .store) (s .found) (t .made)
+      (record { room = same-needed .other-room; other-room = same-needed .other-room; words = refl })
+
+  accepted-reply : call table s (t .made) .reply ≡ verdict holds
+  accepted-reply = sym (alike .reply) ∙ rw with-table at judged
+
+  accepted-leaves : leaves s t ≡ next table s (t .made)
+  accepted-leaves =
+      rw (
+        with-table,
+        alike .left,
+        put-back (needOf table) (t .size) (s .store) (stepOf (setupOf table) lent (s .found) (t .made) .store) (call table s (t .made) .store)
+            room (alike .needed) (alike .spare) (all-alike .spare),
+      )
+
+module _ (table : List ℕ) where
+  abbrev Follows : State → List Attempt → Type 0
+  Follows s made =
+      (otherAnswers attempts (answers attempts s made) ≡ replies table s (acceptedCalls s made))
+      × (end attempts s made ≡ after table s (acceptedCalls s made))
+
+  -- One attempt more at the front, where so it is of the others: a refused one, then an accepted one.
+  refused-first : (s : State) (t : Attempt) (more : List Attempt) {fault : Refused}
+      → attempt s t .reply ≡ refusal fault
+      → ((from : State) → AcceptedWith table from more → Follows from more)
+      → AcceptedWith table s (t ∷ more)
+      → Follows s (t ∷ more)
+  unfolding answers end others otherAnswers
+  refused-first s t more e on with-table =
+      let left : leaves s t ≡ s = refused-leaves s t (rw e) in
+      let rest : Follows s more = on s (rw (e, left) at with-table) in
+      (rw (e, left) (rest .0), rw (e, left) (rest .1))
+
+  accepted-first : (s : State) (t : Attempt) (more : List Attempt) (holds : Bool)
+      → attempt s t .reply ≡ verdict holds
+      → ((from : State) → AcceptedWith table from more → Follows from more)
+      → AcceptedWith table s (t ∷ more)
+      → Follows s (t ∷ more)
+  unfolding answers end others otherAnswers replies after
+  accepted-first s t more holds e on with-table =
+      let here : WithTable table t × AcceptedWith table (leaves s t) more = rw e at with-table in
+      let answered = accepted-reply table s t holds (here .0) e in
+      let left = accepted-leaves table s t holds (here .0) e in
+      let rest : Follows (leaves s t) more = on (leaves s t) (here .1) in
+      (rw (e, answered, ← left) (ap (λ (given : List Reply). verdict holds ∷ given) (rest .0)), rw (e, ← left) (rest .1))
+
+  attempts-follow : (s : State) (made : List Attempt) → AcceptedWith table s made → Follows s made
+  unfolding answers end others otherAnswers replies after
+  attempts-follow s [] with-table = (refl, refl)
+  attempts-follow s (t ∷ more) with-table = go (attempt s t .reply) refl (λ from. attempts-follow from more)
+    where
+      go : (reply : Reply)
+          → attempt s t .reply ≡ reply
+          → ((from : State) → AcceptedWith table from more → Follows from more)
+          → Follows s (t ∷ more)
+      go (verdict holds) e on = accepted-first s t more holds e on with-table
+      go (refusal fault) e on = refused-first s t more e on with-table
+
+pub refused-between : RefusedBetween
+refused-between table s made with-table =
+    let follow = attempts-follow table s made with-table in
+    record {
+      same-answers = follow .0;
+      same-state = follow .1;
+      next = λ t holds is-table judged.
+          subst (λ (from : State). call table from (t .made) .reply ≡ verdict holds) (follow .1)
+          (accepted-reply table (end attempts s made) t holds is-table judged);
+    }

@@ -1,0 +1,61 @@
+-- One event from any sound record, as sets. "a since row's spans are clipped at t and ended ones dropped, then all dropped if x is now false, then t+a
+-- to t+b is joined in if y is true"; "An unreached but sound record, or another table that passes, is answered by the same one-event rules from the
+-- spans and truths found." For every setup, store and record, and every call that is accepted with them: the record is then sound, whether or not a
+-- stream reaches it.
+use mathlib.Core.Bool.{Bool, true, not}
+use mathlib.Core.List.{List}
+use mathlib.Core.Logic.{_↔_, _⊎_}
+use mathlib.Core.Path.{_≡_}
+use Prim.Native.Nat.{ℕ, _≤_, _<_}
+use lib.Dec.{T}
+use Rattle.meaning.specs.Interval.{endOf, Within}
+use Rattle.meaning.specs.Spans.{Span, In, Rising}
+use Rattle.rules.specs.Kinds.{stretch}
+use Rattle.rules.specs.Rows.{rowsOf, numbersAt, ruleOf, keptBy, fedBy}
+use Rattle.rules.specs.Stretches.{width}
+use Rattle.rules.specs.declared.stretch.Stretch.{Stretch}
+use Rattle.spans.specs.Layout.{Laid}
+use Rattle.monitor.specs.declared.record.Record.{Record}
+use Rattle.monitor.specs.Record.{truthAt, heldAt, stretchAt, spansFound, clockOf}
+use Rattle.monitor.specs.Step.{Setup, Call, timeOf, verdict, stepOf}
+use Rattle.promises.specs.SoundIsKept.{Sized}
+use Rattle.promises.specs.Spans.{InOrOut}
+
+-- Whether a row's spans are kept, and whether it is fed, by the truths of a record: of "x since y", whether x is true, and whether y is.
+abbrev pub KeeperTrue : List ℕ → ℕ → Stretch → Record → Type 0
+KeeperTrue table row columns r = T (keptBy true (truthAt (r .truths)) (numbersAt table row) (columns .keep))
+
+abbrev pub FeederTrue : List ℕ → ℕ → Stretch → Record → Type 0
+FeederTrue table row columns r = T (fedBy not (truthAt (r .truths)) (numbersAt table row) columns)
+
+-- What a row's stretch lays out, with its count.
+abbrev pub LaysOut : List ℕ → ℕ → List ℕ → Record → List Span → Type 0
+LaysOut table row store r S = Laid (width (numbersAt table row)) (stretchAt table store row) (heldAt r row) S
+
+-- Where S are the spans of a row, u belongs to them after an event at t: they are kept, u is not before t and belonged to S; or the row is fed and u - t
+-- is in [a,b]. Kept and fed by the truths of the record that the call leaves.
+abbrev pub BelongsAfter : List ℕ → ℕ → Stretch → Record → ℕ → List Span → ℕ → Type 0
+BelongsAfter table row columns left t S u =
+    (KeeperTrue table row columns left × (t ≤ u) × In u S)
+    ⊎ (FeederTrue table row columns left × Within (numbersAt table row .a) (endOf (numbersAt table row .b)) t u)
+
+-- The spans found are those that the words found lay out; those after rise from the call's time, a gap between each two, have exactly these members
+-- and are laid out in the words after; and "The row is true at t exactly when t lies in a span", or in none, by the column.
+pub record OneEvent (setup : Setup) (store : List ℕ) (found : Record) (c : Call) (row : ℕ) (columns : Stretch) : Type 0 where
+  pub before : LaysOut (setup .table) row store found (spansFound (setup .table) store found row)
+  pub spans : List Span
+  pub rising : Rising (timeOf (clockOf found) c) spans
+  pub exact : (u : ℕ)
+      → In u spans
+      ↔ BelongsAfter (setup .table) row columns (stepOf setup store found c .left) (timeOf (clockOf found) c)
+      (spansFound (setup .table) store found row) u
+  pub true-in : T (truthAt (stepOf setup store found c .left .truths) row) ↔ InOrOut (columns .inside) (In (timeOf (clockOf found) c) spans)
+  pub laid : LaysOut (setup .table) row (stepOf setup store found c .store) (stepOf setup store found c .left) spans
+
+abbrev pub OneEventFromAny : Type 0
+OneEventFromAny = (setup : Setup) (store : List ℕ) (found : Record) (c : Call) (holds : Bool) (row : ℕ) (columns : Stretch)
+    → Sized found
+    → stepOf setup store found c .reply ≡ verdict holds
+    → row < rowsOf (setup .table)
+    → ruleOf (numbersAt (setup .table) row) ≡ stretch columns
+    → OneEvent setup store found c row columns
