@@ -1,11 +1,9 @@
--- A call in place: the walk, by hand, of the MIR that `board::kept::muk_event_in` and `board::kept::muk_frame_in` share, over the width of their
+-- A call in place: the walk, by hand, of the MIR that `board::event::muk_event` and `board::frame::muk_frame` share, over the width of their
 -- number, the function that they call and what the number is to it. The borrow of the record is opened, the record is copied out and handed to the
 -- callee beside the table, the store, the number and the mask, the record that the callee gives is stored whole, the borrow is closed there, and the
--- answer is returned. All that the walk knows of the callee is that it meets its contract; it hands the callee's fact on and never opens it.
+-- code is returned. All that the walk knows of the callee is that it meets its contract; it hands the callee's fact on and never opens it.
 -- The store goes to the callee at its own lifetime, share and name and is given up for good; the table is Copy and is had twice; the record, the
--- numbers and the answer are plain, so what they own is made of their relations.
--- It goes as the walk of `call_in` in crate `in_place` goes; there the record is the monitor's and the callee takes an enum, here the record is C's and
--- the callee takes two numbers, so that locals and types differ. Assumes nothing.
+-- numbers and the code are plain, so what they own is made of their relations. Assumes nothing.
 use mathlib.Core.Path.{_≡_, refl, ap}
 use Prim.Native.Nat.{ℕ, _<_, _^_}
 use mathlib.Core.List.{List, [], _∷_}
@@ -43,16 +41,14 @@ use denote.Triple.Entry.{Vals, onEntry}
 use denote.Triple.Spec.{Meets, tripleOf}
 use denote.Triple.Walked.{says, Stays, stay-none, stay-none-slice, gave-slice, stay-ref, walkOf, goes-none, goes-none-slice, goes-gave-slice, goes-ref, Walks, ends-at, walked, walk-meets}
 use denote.Triple.Clauses.{Ended, Clauses, closing, ensured, lasts}
-use Rattle.monitor.specs.Step.{Call}
-use Rattle.board.specs.declared.record.MukRecord.{MukRecord}
-use Rattle.board.specs.declared.call.MukJudged.{MukJudged}
-use Rattle.board.specs.Outcomes.{left, leftIn, callOn}
-use Rattle.board.proofs.record.MukRecord as T
-use Rattle.board.proofs.record.MukRecord.Laws as T′
-use Rattle.board.proofs.call.MukJudged as J
-use Rattle.board.proofs.call.MukJudged.Laws as J′
-use Rattle.board.proofs.call.MukAnswer as S
-use Rattle.board.proofs.call.MukAnswer.Laws as S′
+use Rattle.monitor.specs.declared.record.Record.{Record}
+use Rattle.monitor.specs.Step.{Call, setupOf, stepOf}
+use Rattle.monitor.proofs.record.Record as T
+use Rattle.monitor.proofs.record.Record.Laws as T′
+use Rattle.board.specs.declared.code.Coded.{Coded}
+use Rattle.board.specs.Left.{left, codedOf}
+use Rattle.board.proofs.code.Coded as J
+use Rattle.board.proofs.code.Coded.Laws as J′
 
 -- The two signatures, the callee's and that of the call in place.
 abbrev pub judged-ended : Width → Ended
@@ -88,7 +84,7 @@ kept-ended w =
                 ∷ plain (λ _. UInt w)
                 ∷ plain (λ _. u32)
                 ∷ [];
-            result = plain (λ _. S.the-row);
+            result = plain (λ _. u32);
           };
       kept = (yes, (yes, (yes, (yes, (yes, tt)))));
     }
@@ -100,7 +96,7 @@ module _ {M : Type 1} (𝓤 : URA M) (w : Width) (call-of : ℕ → ℕ → Call
       record {
         ghost = Unit {0};
         requires = λ _. emp 𝓤;
-        ensures = λ _ r e. fact 𝓤 (left r (now (e .1 .0)) ≡ callOn (record { table = now (a .0) }) (now (a .1 .0)) (a .1 .1 .0) (call-of (a .1 .1 .1 .0) (a .1 .1 .1 .1 .0)));
+        ensures = λ _ r e. fact 𝓤 (left (r .code) (r .record) (now (e .1 .0)) ≡ codedOf (stepOf (setupOf (now (a .0))) (now (a .1 .0)) (a .1 .1 .0) (call-of (a .1 .1 .1 .0) (a .1 .1 .1 .1 .0))));
       }
 
   abbrev pub kept-clauses : Clauses 𝓤 (kept-ended w)
@@ -108,7 +104,7 @@ module _ {M : Type 1} (𝓤 : URA M) (w : Width) (call-of : ℕ → ℕ → Call
       record {
         ghost = Unit {0};
         requires = λ _. emp 𝓤;
-        ensures = λ _ r e. fact 𝓤 (leftIn r (now (e .1 .1 .0)) (now (e .1 .0)) ≡ callOn (record { table = now (a .0) }) (now (a .1 .0)) (now (a .1 .1 .0)) (call-of (a .1 .1 .1 .0) (a .1 .1 .1 .1 .0)));
+        ensures = λ _ r e. fact 𝓤 (left r (now (e .1 .1 .0)) (now (e .1 .0)) ≡ codedOf (stepOf (setupOf (now (a .0))) (now (a .1 .0)) (now (a .1 .1 .0)) (call-of (a .1 .1 .1 .0) (a .1 .1 .1 .1 .0))));
       }
 
 -- The code.
@@ -122,7 +118,7 @@ function w callee =
       outlives = [];
       params = 5;
       locals =
-          value S′.mir
+          value (tyInt w32)
           ∷ value (sliceTy (tyRef (named 0) imm (tyInt w32)))
           ∷ value (sliceTy (tyRef (named 1) mut (tyInt w64)))
           ∷ value (tyRef (named 2) mut (pointee (T.the-row .written)))
@@ -150,7 +146,7 @@ stayed w = (stay-none-slice (0 ∷ []) tt (plain (λ _. u32)) yes, (gave-slice (
 abbrev pub Judge : {M : Type 1} (𝓤 : URA M) (H : Heap 𝓤) (A : Atoms 𝓤) (w : Width) (call-of : ℕ → ℕ → Call) → Contract 𝓤
 Judge 𝓤 H A w call-of = tripleOf 𝓤 H A (judged-ended w .signature) (closing 𝓤 H A (judged-ended w) (judged-clauses 𝓤 w call-of))
 
-module _ {M : Type 1} (𝓤 : URA M) (H : Heap 𝓤) (A : Atoms 𝓤) (W : Given 𝓤 H A) (w : Width) (callee : Name) (call-of : ℕ → ℕ → Call) (κ₀ κ₁ κ₂ : Lft) (q₀ q₁ q₂ : Share) (table : RefT (List ℕ)) (b₁ o₁ : ℕ) (γ₁ : GName) (words : List ℕ) (b o : ℕ) (γ : GName) (h : MukRecord) (number mask : ℕ) (number-fits : number < 2 ^ bits w) (mask-fits : mask < 2 ^ 32) where
+module _ {M : Type 1} (𝓤 : URA M) (H : Heap 𝓤) (A : Atoms 𝓤) (W : Given 𝓤 H A) (w : Width) (callee : Name) (call-of : ℕ → ℕ → Call) (κ₀ κ₁ κ₂ : Lft) (q₀ q₁ q₂ : Share) (table : RefT (List ℕ)) (b₁ o₁ : ℕ) (γ₁ : GName) (words : List ℕ) (b o : ℕ) (γ : GName) (h : Record) (number mask : ℕ) (number-fits : number < 2 ^ bits w) (mask-fits : mask < 2 ^ 32) where
   abbrev lent : RefT (List ℕ)
   lent = record { ptr = (b₁, o₁); name = γ₁; now = words }
 
@@ -161,7 +157,7 @@ module _ {M : Type 1} (𝓤 : URA M) (H : Heap 𝓤) (A : Atoms 𝓤) (W : Given
   abbrev vs : Val
   vs = sliceVal (b₁, o₁) (length words)
 
-  abbrev mach : MukRecord → Val
+  abbrev mach : Record → Val
   mach z = LL.val T.the-type T′.the-laws z
 
   abbrev vn : Val
@@ -171,7 +167,7 @@ module _ {M : Type 1} (𝓤 : URA M) (H : Heap 𝓤) (A : Atoms 𝓤) (W : Given
   vm = vint w32 mask
 
   abbrev Arg : Type 0
-  Arg = RefT (List ℕ) × (RefT (List ℕ) × (RefT MukRecord × (ℕ × (ℕ × Unit {0}))))
+  Arg = RefT (List ℕ) × (RefT (List ℕ) × (RefT Record × (ℕ × (ℕ × Unit {0}))))
 
   abbrev x : Arg
   x = (table, (lent, (record { ptr = (b, o); name = γ; now = h }, (number, (mask, tt)))))
@@ -194,7 +190,7 @@ module _ {M : Type 1} (𝓤 : URA M) (H : Heap 𝓤) (A : Atoms 𝓤) (W : Given
 
   -- what the callee is passed
   abbrev JudgeArg : Type 0
-  JudgeArg = RefT (List ℕ) × (RefT (List ℕ) × (MukRecord × (ℕ × (ℕ × Unit {0}))))
+  JudgeArg = RefT (List ℕ) × (RefT (List ℕ) × (Record × (ℕ × (ℕ × Unit {0}))))
 
   abbrev given-judge : JudgeArg
   given-judge = (table, (lent, (h, (number, (mask, tt)))))
@@ -206,33 +202,27 @@ module _ {M : Type 1} (𝓤 : URA M) (H : Heap 𝓤) (A : Atoms 𝓤) (W : Given
   to = (((κ₀, (κ₁, tt)), (q₀, (q₁, tt)), tt, given-judge, passed), tt)
 
   -- what the callee says of its result and the last words of the store
-  abbrev Said : MukJudged → List ℕ → Type 0
-  Said r zs = left r zs ≡ callOn (record { table = now table }) words h (call-of number mask)
+  abbrev Said : Coded → List ℕ → Type 0
+  Said r zs = left (r .code) (r .record) zs ≡ codedOf (stepOf (setupOf (now table)) words h (call-of number mask))
 
   -- the last values that the callee says
   abbrev Lasts : Type 0
   Lasts = Unit {0} × (List ℕ × (Unit {0} × (Unit {0} × (Unit {0} × Unit {0}))))
 
-  abbrev answer : MukJudged → Val
-  answer r = LL.val S.the-type S′.the-laws (r .answer)
+  -- what is known of a code and a record, alone and where they were judged
+  abbrev Fits : Coded → Type 0
+  Fits r = r .code < 2 ^ 32
 
-  -- what is known of an answer and a record, alone and where they were judged
-  abbrev IsAnswer : MukJudged → Type 0
-  IsAnswer r = Is S.the-row (r .answer) (answer r ∷ [])
-
-  abbrev IsRecord : MukJudged → Type 0
+  abbrev IsRecord : Coded → Type 0
   IsRecord r = Is T.the-row (r .record) (mach (r .record) ∷ [])
 
-  holds-answer : (r : MukJudged) (u : Val) → Is J.the-row r (u ∷ []) → IsAnswer r
-  holds-answer r u is = LL.owed J.the-type J′.the-laws r (u ∷ []) is .0
+  code-fits : (r : Coded) (u : Val) → Is J.the-row r (u ∷ []) → Fits r
+  code-fits r u is = LL.owed J.the-type J′.the-laws r (u ∷ []) is .0 .1
 
-  holds-record : (r : MukJudged) (u : Val) → Is J.the-row r (u ∷ []) → IsRecord r
+  holds-record : (r : Coded) (u : Val) → Is J.the-row r (u ∷ []) → IsRecord r
   holds-record r u is = LL.owed J.the-type J′.the-laws r (u ∷ []) is .1 .0
 
-  answer-typed : (r : MukJudged) → IsAnswer r → Holds (hasTy S′.mir (answer r)) × WT (answer r)
-  answer-typed r is = LL.lawful S.the-type S′.the-laws 𝓤 H A W .typed (r .answer) (answer r ∷ []) is .0
-
-  record-typed : (r : MukJudged) → IsRecord r → Holds (hasTy T′.mir (mach (r .record))) × WT (mach (r .record))
+  record-typed : (r : Coded) → IsRecord r → Holds (hasTy T′.mir (mach (r .record))) × WT (mach (r .record))
   record-typed r is = LL.lawful T.the-type T′.the-laws 𝓤 H A W .typed (r .record) (mach (r .record) ∷ []) is .0
 
   -- what the callee asks: the tokens, the table and the store; the rest is plain
@@ -243,17 +233,17 @@ module _ {M : Type 1} (𝓤 : URA M) (H : Heap 𝓤) (A : Atoms 𝓤) (W : Given
       owned ! T.the-row (Is T.the-row) (LL.makes T.the-type T′.the-plain 𝓤 H A) h _ was-record $ fjoin ! $
       move ! (3 ∷ 0 ∷ []) $ fjoin ! $ move ! (2 ∷ 0 ∷ []) $ fjoin ! $ move ! (1 ∷ 0 ∷ []) $ join ! $ frame ! $ done !
 
-  exits : (r : MukJudged) (zs : List ℕ) → Said r zs → length zs ≡ length words → IsAnswer r
-      → ent 𝓤 (⋆ 𝓤 H A (‵ (fobs γ (T.the-row .coded .code (r .record))) ∷ ‵ (fbor κ₂ (Body (mem T.the-row) b o γ)) ∷ ‵ (flft κ₂ q₂) ∷ ‵ (finally u64 γ₁ zs) ∷ (‵ (flft κ₀ q₀) ⊛ ‵ (flft κ₁ q₁) ⊛ ‵ ftrue) ∷ ‵ Table ∷ [])) (Post (answer r))
-  exits r zs e l was-answer =
+  exits : (r : Coded) (zs : List ℕ) → Said r zs → length zs ≡ length words → Fits r
+      → ent 𝓤 (⋆ 𝓤 H A (‵ (fobs γ (T.the-row .coded .code (r .record))) ∷ ‵ (fbor κ₂ (Body (mem T.the-row) b o γ)) ∷ ‵ (flft κ₂ q₂) ∷ ‵ (finally u64 γ₁ zs) ∷ (‵ (flft κ₀ q₀) ⊛ ‵ (flft κ₁ q₁) ⊛ ‵ ftrue) ∷ ‵ Table ∷ [])) (Post (vint w32 (r .code)))
+  exits r zs e l fits =
       qed W (‵ (fobs γ (T.the-row .coded .code (r .record))) ∷ ‵ (fbor κ₂ (Body (mem T.the-row) b o γ)) ∷ ‵ (flft κ₂ q₂) ∷ ‵ (finally u64 γ₁ zs) ∷ (‵ (flft κ₀ q₀) ⊛ ‵ (flft κ₁ q₁) ⊛ ‵ ftrue) ∷ ‵ Table ∷ []) ∵
-      suffices ! _ (ends-at 𝓤 H A (kept-ended w) (stayed w) (kept-clauses 𝓤 w call-of) W begun (answer r) (r .answer) (tt, (zs, (r .record, (tt, (tt, tt))))) (tt, (l, (tt, (tt, (tt, tt)))))) $ says ! e $
+      suffices ! _ (ends-at 𝓤 H A (kept-ended w) (stayed w) (kept-clauses 𝓤 w call-of) W begun (vint w32 (r .code)) (r .code) (tt, (zs, (r .record, (tt, (tt, tt))))) (tt, (l, (tt, (tt, (tt, tt)))))) $ says ! e $
       -- the tokens
       move ! (4 ∷ []) $ split ! $ move ! (1 ∷ []) $ split ! $ move ! (5 ∷ 1 ∷ []) $ join ! $ move ! (1 ∷ 0 ∷ []) $ join ! $ move ! (1 ∷ 0 ∷ []) $ join ! $ frame ! $
       -- [obs; the borrow; the last words; what the table owns]
       feqI ! (List Val) (vptr b o ∷ []) (vptr b o ∷ []) refl $ fjoin3 ! $ nothing ! $ owned ! u32 (Is u32) (uint-makes 𝓤 H A W w32) mask _ (refl, mask-fits) $ fjoin ! $ owned ! (UInt w) (Is (UInt w)) (uint-makes 𝓤 H A W w) number _ (refl, number-fits) $ fjoin ! $
       move ! (1 ∷ 0 ∷ []) $ fjoin ! $ move ! (1 ∷ 0 ∷ []) $ fjoin ! $ move ! (1 ∷ 0 ∷ []) $ fjoin ! $ frame ! $
-      owned ! S.the-row (Is S.the-row) (LL.makes S.the-type S′.the-plain 𝓤 H A) (r .answer) _ was-answer $ done !
+      owned ! u32 (Is u32) (uint-makes 𝓤 H A W w32) (r .code) _ (refl, fits) $ done !
 
   module _ (C : Calls 𝓤 H) (Λ : Loops 𝓤 H) (fm : FmC 𝓤 H (W .laws) C) (known : Triple 𝓤 (C callee) (Judge 𝓤 H A w call-of)) where
     walk : Is (ShrSlice (named 0) κ₀ u32) table (vt ∷ []) → Is (MutSlice (named 1) κ₁ u64) lent (vs ∷ [])
@@ -279,7 +269,7 @@ module _ {M : Type 1} (𝓤 : URA M) (H : Heap 𝓤) (A : Atoms 𝓤) (W : Given
         move ! (0 ∷ 1 ∷ 7 ∷ []) $ use3 W (raw (Judge 𝓤 H A w call-of .pre to)) (asked was) $
         -- [what the callee asks; the table; the record's cell; the open borrow; obs; auth; _9; …; _8; …; _7; …; room for _6; …; _5; …; _4; …; _3; …; _2; …; _1; …; room for _0; …]
         calls-at ! fm (Judge 𝓤 H A w call-of) known to (and-then ! (load ! (from ! (stop !)) (look ! 22 refl)) (and-then ! (load ! (from ! (stop !)) (look ! 8 refl)) (and-then ! (load ! (from ! (stop !)) (look ! 6 refl)) (and-then ! (load ! (from ! (stop !)) (look ! 16 refl)) (and-then ! (load ! (from ! (stop !)) (look ! 14 refl)) (no-more !)))))) (λ u.
-        use1 W (later (some (λ (r : MukJudged). ((‵ (flft κ₀ q₀) ⊛ ‵ (flft κ₁ q₁) ⊛ ‵ ftrue) ⊛ ‵ (J.the-row .own r (u ∷ []))) ⊛ raw (ensured 𝓤 H A (judged-ended w) (judged-clauses 𝓤 w call-of) (κ₀, (κ₁, tt)) given-judge tt r)))) (id⊢ 𝓤 _) $ await ! tt $ pick ! (λ r.
+        use1 W (later (some (λ (r : Coded). ((‵ (flft κ₀ q₀) ⊛ ‵ (flft κ₁ q₁) ⊛ ‵ ftrue) ⊛ ‵ (J.the-row .own r (u ∷ []))) ⊛ raw (ensured 𝓤 H A (judged-ended w) (judged-clauses 𝓤 w call-of) (κ₀, (κ₁, tt)) given-judge tt r)))) (id⊢ 𝓤 _) $ await ! tt $ pick ! (λ r.
         split ! $ move ! (1 ∷ []) $ use1 W (some (λ (zs : Lasts). ‵ (lasts (judged-ended w) (κ₀, (κ₁, tt)) given-judge zs) ⊛ raw (fact 𝓤 (Said r (zs .1 .0))))) (id⊢ 𝓤 _) $ pick ! (λ zs.
         split ! $ move ! (1 ∷ []) $ heard ! (Said r (zs .1 .0)) (λ e. fsplit ! $ move ! (1 ∷ []) $ fsplit ! $ fsplit ! $ move ! (1 ∷ []) $ feqL ! (λ l. move ! (3 ∷ []) $ split ! $ move ! (1 ∷ []) $
         -- [the result; the tokens; the last words; …; …; the table; the record's cell; the open borrow; obs; auth; _9; …; _8; …; _7; …; room for _6; …; _5; …; _4; …; _3; …; _2; …; _1; …; room for _0; …]
@@ -287,14 +277,14 @@ module _ {M : Type 1} (𝓤 : URA M) (H : Heap 𝓤) (A : Atoms 𝓤) (W : Given
         land ! (from ! (stop !)) (init ! 15 refl (LL.lawful J.the-type J′.the-laws 𝓤 H A W .typed r _ is .0)) $
         rewrite ! 15 (λ (w : Val). ‵ (fat fullShare J′.mir l₆ 0 w)) (ap only (LL.tells J.the-type J′.the-laws r (u ∷ []) is)) refl $
         assigns ! (of-opd ! (load ! (from ! (fld ! refl (stop !))) (look-in ! 15 (sub ! 1 refl (whole !))))) (from ! (hop ! (look ! 21 refl) (stop !))) (stores ! 5 refl (record-typed r (holds-record r u is))) $
-        assigns ! (of-opd ! (load ! (from ! (fld ! refl (stop !))) (look-in ! 15 (sub ! 0 refl (whole !))))) (from ! (stop !)) (init ! 27 refl (answer-typed r (holds-answer r u is))) $
+        assigns ! (of-opd ! (load ! (from ! (fld ! refl (stop !))) (look-in ! 15 (sub ! 0 refl (whole !))))) (from ! (stop !)) (init ! 27 refl (tt, record { fits = code-fits r u is })) $
         -- the borrow is closed at the record that was given
         owned ! T.the-row (Is T.the-row) (LL.makes T.the-type T′.the-plain 𝓤 H A) (r .record) _ (holds-record r u is) $
         move ! (6 ∷ []) $ use1 W (‵ (cellAt fullShare (T.the-row .mir) (mach (r .record) ∷ []) b o)) (W .laws .at-raw fullShare T′.mir b o (mach (r .record))) $ move ! (0 ∷ 1 ∷ 7 ∷ 8 ∷ 9 ∷ []) $ closes ! tt T.the-row (r .record) (mach (r .record) ∷ []) b o $
         -- [obs; the borrow; its token; the tokens; the last words; …; …; the table; _9; …; _8; …; _7; …; _6; …; _5; …; _4; …; _3; …; _2; …; _1; …; _0; …]
         returns ! (look ! 26 refl) $ forget ! 8 refl $ forget ! 10 refl $ forget ! 12 refl $ forget ! 14 refl $ forget ! 16 refl $ forget ! 18 refl $ forget ! 20 refl $ forget ! 22 refl $ forget ! 24 refl $ forget ! 26 refl $
         move ! (26 ∷ 27 ∷ []) $ free1 ! $ move ! (24 ∷ 25 ∷ []) $ free1 ! $ move ! (22 ∷ 23 ∷ []) $ free1 ! $ move ! (20 ∷ 21 ∷ []) $ free1 ! $ move ! (18 ∷ 19 ∷ []) $ free1 ! $ move ! (16 ∷ 17 ∷ []) $ free1 ! $ move ! (14 ∷ 15 ∷ []) $ free1 ! $ move ! (12 ∷ 13 ∷ []) $ free1 ! $ move ! (10 ∷ 11 ∷ []) $ free1 ! $ move ! (8 ∷ 9 ∷ []) $ free1 ! $ free0 ! $
-        keep ! (0 ∷ 1 ∷ 2 ∷ 4 ∷ 3 ∷ 7 ∷ []) $ by ! (exits r (zs .1 .0) e l (holds-answer r u is))))))))))))))))))))
+        keep ! (0 ∷ 1 ∷ 2 ∷ 4 ∷ 3 ∷ 7 ∷ []) $ by ! (exits r (zs .1 .0) e l (code-fits r u is))))))))))))))))))))
 
 module _ {M : Type 1} (𝓤 : URA M) (H : Heap 𝓤) (A : Atoms 𝓤) (W : Given 𝓤 H A) (w : Width) (callee : Name) (call-of : ℕ → ℕ → Call) where
   walks : (C : Calls 𝓤 H) (Λ : Loops 𝓤 H) → FmC 𝓤 H (W .laws) C → Triple 𝓤 (C callee) (Judge 𝓤 H A w call-of)

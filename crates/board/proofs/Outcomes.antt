@@ -1,50 +1,69 @@
--- Any two outcomes that the contract of a public function allows are the same: its answer, and every word and byte that it was lent.
+-- Any two outcomes that the contract of a public function allows are the same: its code, and every word, field and number that it was lent.
 use mathlib.Core.List.{List}
 use mathlib.Core.Path.{_≡_, ap}
 use Prim.Native.Nat.{ℕ}
 use Rattle.rules.specs.Table.{checkOf}
-use Rattle.rules.proofs.Outcomes.{one-value}
-use Rattle.monitor.specs.Step.{Setup, Call, frameTimeOf}
+use Rattle.meaning.proofs.OneValue.{one-value}
+use Rattle.monitor.specs.declared.record.Record.{Record}
+use Rattle.monitor.specs.declared.answer.Answer.{Answer}
+use Rattle.monitor.specs.Start.{startOf}
+use Rattle.monitor.specs.Step.{Setup, Call, said, stepOf, frameTimeOf}
 use Rattle.lines.specs.Frame.{readFrame}
-use Rattle.board.specs.declared.record.MukRecord.{MukRecord}
-use Rattle.board.specs.declared.table.MukChecked.{MukChecked}
-use Rattle.board.specs.declared.start.MukStarted.{MukStarted}
-use Rattle.board.specs.declared.call.MukAnswer.{MukAnswer}
-use Rattle.board.specs.declared.call.MukJudged.{MukJudged}
-use Rattle.board.specs.declared.frame_time.MukTime.{MukTime}
-use Rattle.board.specs.declared.line.MukLine.{MukLine}
-use Rattle.board.specs.Answers.{checkedOf, timeOf, lineOf}
-use Rattle.board.specs.Outcomes.{Left, left, leftIn, startOn, callOn}
+use Rattle.board.specs.Version.{version}
+use Rattle.board.specs.Code.{codeOf}
+use Rattle.board.specs.Left.{Left, left, startedOf, codedOf}
+use Rattle.board.specs.Numbers.{Taken, checked, checkedOf, Timed, timed, timedOf, LineGiven, line, lineLeft}
+use Rattle.board.specs.Run.{Ran, ran, runOf}
+
+pub version-one-outcome : (p q : ℕ) → p ≡ version → q ≡ version → p ≡ q
+version-one-outcome p q = one-value
+
+pub code-one-outcome : (answer : Answer) (p q : ℕ) → p ≡ codeOf (said answer) → q ≡ codeOf (said answer) → p ≡ q
+code-one-outcome answer p q = one-value
 
 -- The parts of two that equal the same.
-one-left : {Answer : Type 0} {x : Left Answer} (r r′ : Answer) (s s′ : List ℕ) → left r s ≡ x → left r′ s′ ≡ x → (r ≡ r′) × (s ≡ s′)
-one-left {Answer} r r′ s s′ p q =
-    let e : left r s ≡ left r′ s′ = one-value p q in (ap (λ (o : Left Answer). o .answer) e, ap (λ (o : Left Answer). o .store) e)
+one-left : {x : Left} (r r′ : ℕ) (k k′ : Record) (s s′ : List ℕ) → left r k s ≡ x → left r′ k′ s′ ≡ x → (r ≡ r′) × (k ≡ k′) × (s ≡ s′)
+one-left r r′ k k′ s s′ p q =
+    let e : left r k s ≡ left r′ k′ s′ = one-value p q in
+    (ap (λ (o : Left). o .code) e, ap (λ (o : Left). o .kept) e, ap (λ (o : Left). o .store) e)
 
-pub check-one-outcome : (table : List ℕ) (p q : MukChecked) → p ≡ checkedOf (checkOf table) → q ≡ checkedOf (checkOf table) → p ≡ q
-check-one-outcome table p q = one-value
-
-pub start-one-outcome : (table store : List ℕ) (r r′ : MukStarted) (s s′ : List ℕ)
-    → left r s ≡ startOn table store → left r′ s′ ≡ startOn table store → (r ≡ r′) × (s ≡ s′)
+pub start-one-outcome : (table store : List ℕ) (r r′ : ℕ) (k k′ : Record) (s s′ : List ℕ)
+    → left r k s ≡ startedOf (startOf table store) → left r′ k′ s′ ≡ startedOf (startOf table store) → (r ≡ r′) × (k ≡ k′) × (s ≡ s′)
 start-one-outcome table store = one-left
 
 -- `muk_event` and `muk_frame`.
-pub call-one-outcome : (setup : Setup) (store : List ℕ) (given : MukRecord) (call : Call) (r r′ : MukJudged) (s s′ : List ℕ)
-    → left r s ≡ callOn setup store given call → left r′ s′ ≡ callOn setup store given call → (r ≡ r′) × (s ≡ s′)
-call-one-outcome setup store given call = one-left
+pub call-one-outcome : (setup : Setup) (store : List ℕ) (found : Record) (call : Call) (r r′ : ℕ) (k k′ : Record) (s s′ : List ℕ)
+    → left r k s ≡ codedOf (stepOf setup store found call) → left r′ k′ s′ ≡ codedOf (stepOf setup store found call)
+    → (r ≡ r′) × (k ≡ k′) × (s ≡ s′)
+call-one-outcome setup store found call = one-left
 
--- `muk_event_in` and `muk_frame_in`.
-pub call-in-one-outcome : (setup : Setup) (store : List ℕ) (given : MukRecord) (call : Call) (r r′ : MukAnswer) (k k′ : MukRecord) (s s′ : List ℕ)
-    → leftIn r k s ≡ callOn setup store given call → leftIn r′ k′ s′ ≡ callOn setup store given call → (r ≡ r′) × (k ≡ k′) × (s ≡ s′)
-call-in-one-outcome setup store given call r r′ k k′ s s′ p q =
-    let e : leftIn r k s ≡ leftIn r′ k′ s′ = one-value p q in (
-      ap (λ (o : Left MukJudged). o .answer .answer) e,
-      ap (λ (o : Left MukJudged). o .answer .record) e,
-      ap (λ (o : Left MukJudged). o .store) e,
+pub check-one-outcome : (table : List ℕ) (rows need : ℕ) (r r′ n n′ w w′ : ℕ)
+    → checked r n w ≡ checkedOf (checkOf table) rows need → checked r′ n′ w′ ≡ checkedOf (checkOf table) rows need
+    → (r ≡ r′) × (n ≡ n′) × (w ≡ w′)
+check-one-outcome table rows need r r′ n n′ w w′ p q =
+    let e : checked r n w ≡ checked r′ n′ w′ = one-value p q in
+    (ap (λ (o : Taken). o .code) e, ap (λ (o : Taken). o .rows) e, ap (λ (o : Taken). o .need) e)
+
+pub frame-time-one-outcome : (last counter time : ℕ) (r r′ t t′ : ℕ)
+    → timed r t ≡ timedOf (frameTimeOf last counter) time → timed r′ t′ ≡ timedOf (frameTimeOf last counter) time → (r ≡ r′) × (t ≡ t′)
+frame-time-one-outcome last counter time r r′ t t′ p q =
+    let e : timed r t ≡ timed r′ t′ = one-value p q in (ap (λ (o : Timed). o .code) e, ap (λ (o : Timed). o .time) e)
+
+pub read-frame-one-outcome : (text : List ℕ) (place counter mask : ℕ) (r r′ n n′ c c′ m m′ : ℕ)
+    → line r n c m ≡ lineLeft (readFrame text place) counter mask → line r′ n′ c′ m′ ≡ lineLeft (readFrame text place) counter mask
+    → (r ≡ r′) × (n ≡ n′) × (c ≡ c′) × (m ≡ m′)
+read-frame-one-outcome text place counter mask r r′ n n′ c c′ m m′ p q =
+    let e : line r n c m ≡ line r′ n′ c′ m′ = one-value p q in (
+      ap (λ (o : LineGiven). o .code) e,
+      ap (λ (o : LineGiven). o .place) e,
+      ap (λ (o : LineGiven). o .counter) e,
+      ap (λ (o : LineGiven). o .mask) e,
     )
 
-pub frame-time-one-outcome : (last counter : ℕ) (p q : MukTime) → p ≡ timeOf (frameTimeOf last counter) → q ≡ timeOf (frameTimeOf last counter) → p ≡ q
-frame-time-one-outcome last counter p q = one-value
-
-pub read-frame-one-outcome : (text : List ℕ) (place : ℕ) (p q : MukLine) → p ≡ lineOf (readFrame text place) → q ≡ lineOf (readFrame text place) → p ≡ q
-read-frame-one-outcome text place p q = one-value
+-- `run_events` and `run_frames`: the record, the store and the codes.
+pub run-one-outcome : (setup : Setup) (found : Record) (store codes : List ℕ) (calls : List Call) (k k′ : Record) (s s′ a a′ : List ℕ)
+    → ran k s a ≡ runOf setup found store codes calls → ran k′ s′ a′ ≡ runOf setup found store codes calls
+    → (k ≡ k′) × (s ≡ s′) × (a ≡ a′)
+run-one-outcome setup found store codes calls k k′ s s′ a a′ p q =
+    let e : ran k s a ≡ ran k′ s′ a′ = one-value p q in
+    (ap (λ (r : Ran). r .left) e, ap (λ (r : Ran). r .store) e, ap (λ (r : Ran). r .codes) e)

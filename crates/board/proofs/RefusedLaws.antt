@@ -1,52 +1,78 @@
--- A refused call as C sees it: it "leaves every word of the store and every field of the record as it was"; "a record with any other byte there is not
--- sound (7)", in the order of refusals.
-use mathlib.Core.Bool.{false}
+-- What a refusal leaves, as C sees it: "A refused call leaves every word of the store, every field of the record and every single number as it was, but
+-- for the place in a text; a refused start leaves an all-zero record."
+use mathlib.Core.Bool.{Bool}
 use mathlib.Core.List.{List}
 use mathlib.Core.Option.{Option, none, some}
 use mathlib.Core.Path.{_≡_, refl}
-use Prim.Native.Nat.{ℕ}
+use Prim.Native.Nat.{ℕ, _<_, _/_}
 use native.Mathlib.Omega.{arith}
 use lib.ListN.{length}
-use borrow.Author.Tests.{ne-eqb}
-use Rattle.rules.specs.Refusals.{Refused, refused, _orElse_}
-use Rattle.rules.specs.Rows.{rowsOf}
-use Rattle.rules.specs.declared.refusal.Refusal.the-variants as Refusal
-use Rattle.monitor.specs.Ready.{readyOf, refusalIn}
+use Rattle.refusals.specs.Refusals.{Refused}
+use Rattle.rules.specs.Table as Table
+use Rattle.monitor.specs.declared.record.Record.{Record}
 use Rattle.monitor.specs.Record.{nothingSeen}
-use Rattle.monitor.specs.Soundness.{sound?}
-use Rattle.monitor.specs.Step.{Setup, Call, momentOf, outcome, refusalOf, stepOf}
-use Rattle.monitor.proofs.ReadyLaws.{ready-none}
-use Rattle.board.specs.declared.record.MukRecord.{MukRecord}
-use Rattle.board.specs.Record.{readable?, recordOf}
-use Rattle.board.specs.Outcomes.{outcomeOf, callOn}
+use Rattle.monitor.specs.Ready.{readyOf}
+use Rattle.monitor.specs.Start.{begin, startOf}
+use Rattle.monitor.specs.Event.{recordAfter}
+use Rattle.monitor.specs.Step.{Setup, Call, TimeReply, at, notAt, verdict, momentOf, verdictOf, outcomeBy, refusalOf, stepOf}
+use Rattle.lines.specs.Read as Read
+use Rattle.board.specs.Code.{verdictRoom, codeOf}
+use Rattle.board.specs.Left.{startedOf, codedOf}
+use Rattle.board.specs.Numbers.{checkedOf, timedOf, lineBy, lineLeft}
+use Rattle.board.proofs.CodeLaws.{verdict-tag}
 
-module _ (setup : Setup) (store : List ℕ) (given : MukRecord) (call : Call) where
-  -- Record and store after a refusal.
-  gives-back : (fault : Option Refused)
-      → let o = outcomeOf given (outcome setup store (recordOf given) (momentOf setup store (recordOf given) call) fault) in
-      o .answer .answer .what ≡ 0 → (o .answer .record ≡ given) × (o .store ≡ store)
-  gives-back (some fault) refused = (refl, refl)
-  gives-back none accepted = absurd (omega arith)
+-- A number stands above the verdict's bits.
+abbrev pub Refusal : ℕ → Type 0
+Refusal code = 0 < code / verdictRoom
 
-  pub refusal-gives-back : let o = callOn setup store given call in o .answer .answer .what ≡ 0 → (o .answer .record ≡ given) × (o .store ≡ store)
-  unfolding callOn stepOf
-  refusal-gives-back = gives-back (refusalOf setup store (recordOf given) call)
+no-verdict : {A : Type 0} (holds : Bool) → Refusal (codeOf (verdict holds)) → A
+no-verdict holds refused = let none : codeOf (verdict holds) / verdictRoom ≡ 0 = verdict-tag holds in absurd (omega arith)
 
-  -- The record of no rows is sound for no table that passes.
-  no-rows : refusalIn (readyOf (setup .table) (length store)) ≡ none → sound? (setup .table) store (nothingSeen 0) ≡ false
-  unfolding sound? nothingSeen
-  no-rows passes =
-      let ready = ready-none (setup .table) (length store) passes in
-      rw (ne-eqb 0 (rowsOf (setup .table)) (λ e. omega arith))
+-- An event or a frame: the record and the store stay.
+module _ (setup : Setup) (store : List ℕ) (found : Record) (call : Call) where
+  stays : (fault : Option Refused) → let o = codedOf (outcomeBy setup store found (momentOf setup store found call) fault) in
+      Refusal (o .code) → (o .kept ≡ found) × (o .store ≡ store)
+  stays (some fault) refused = (refl, refl)
+  stays none refused = no-verdict (verdictOf setup (recordAfter (momentOf setup store found call) .truths)) refused
 
-  in-turn : (first : Option Refused) → refusalIn (readyOf (setup .table) (length store)) ≡ first
-      → refusalOf setup store (nothingSeen 0) call ≡ (first orElse some (refused Refusal.Record))
-  unfolding refusalOf
-  in-turn (some fault) e = rw e
-  in-turn none e = rw (e, no-rows e)
+  pub refused-call-stays : let o = codedOf (stepOf setup store found call) in Refusal (o .code) → (o .kept ≡ found) × (o .store ≡ store)
+  unfolding stepOf
+  refused-call-stays = stays (refusalOf setup store found call)
 
-  -- Refusals 1 to 4 come first, then 7.
-  pub damaged-bytes-refused : readable? given ≡ false
-      → refusalOf setup store (recordOf given) call ≡ (refusalIn (readyOf (setup .table) (length store)) orElse some (refused Refusal.Record))
-  unfolding recordOf
-  damaged-bytes-refused damaged = rw damaged (in-turn (refusalIn (readyOf (setup .table) (length store))) refl)
+-- A start: the record is all zero, the store stays.
+begins : (store : List ℕ) (ready : Table.CheckReply) → let o = startedOf (begin store ready) in Refusal (o .code) → (o .kept ≡ nothingSeen 0) × (o .store ≡ store)
+begins store (Table.passed rows need) refused = absurd (omega arith)
+begins store (Table.refusedBy fault) refused = (refl, refl)
+
+pub refused-start-zero : (table store : List ℕ) → let o = startedOf (startOf table store) in Refusal (o .code) → (o .kept ≡ nothingSeen 0) × (o .store ≡ store)
+unfolding startOf
+refused-start-zero table store = begins store (readyOf table (length store))
+
+-- A table check: row count and need stay.
+pub refused-check-stays : (said : Table.CheckReply) (rows need : ℕ) → let o = checkedOf said rows need in Refusal (o .code) → (o .rows ≡ rows) × (o .need ≡ need)
+refused-check-stays (Table.passed counted words) rows need refused = absurd (omega arith)
+refused-check-stays (Table.refusedBy fault) rows need refused = (refl, refl)
+
+-- The time of a frame: the time stays.
+pub refused-time-stays : (reply : TimeReply) (time : ℕ) → let o = timedOf reply time in Refusal (o .code) → o .time ≡ time
+refused-time-stays (at shown) time refused = absurd (omega arith)
+refused-time-stays (notAt fault) time refused = refl
+
+-- A line: where no frame was read, counter and mask stay. The place is the next one, whatever was read.
+without-frame : (said : Read.LineReply) (next counter mask : ℕ) → let o = lineBy said next counter mask in
+    (o .code ≡ 1 → ⊥) → (o .counter ≡ counter) × (o .mask ≡ mask)
+without-frame Read.atEnd next counter mask no-frame = (refl, refl)
+without-frame (Read.goodLine given) next counter mask no-frame = absurd (no-frame refl)
+without-frame (Read.badLine fault) next counter mask no-frame = (refl, refl)
+
+pub no-frame-stays : (read : Read.Read) (counter mask : ℕ) → let o = lineLeft read counter mask in
+    (o .code ≡ 1 → ⊥) → (o .counter ≡ counter) × (o .mask ≡ mask)
+no-frame-stays read = without-frame (read .said) (read .next)
+
+next-place-by : (said : Read.LineReply) (next counter mask : ℕ) → lineBy said next counter mask .place ≡ next
+next-place-by Read.atEnd next counter mask = refl
+next-place-by (Read.goodLine given) next counter mask = refl
+next-place-by (Read.badLine fault) next counter mask = refl
+
+pub next-place : (read : Read.Read) (counter mask : ℕ) → lineLeft read counter mask .place ≡ read .next
+next-place read = next-place-by (read .said) (read .next)

@@ -1,30 +1,23 @@
 // The time of a frame for C.
 
+use crate::code::refusal_code;
 use monitor::answer::Timed;
 use monitor::frame_time;
-use rules::refusal;
 ghost use mathlib.Core.Path.{_≡_};
 ghost use Rattle.monitor.specs.Step.{frameTimeOf};
-ghost use Rattle.board.specs.Answers.{timeOf};
+ghost use Rattle.board.specs.Numbers.{timed, timedOf};
 
-// number 0: the time; otherwise the refusal.
-#[repr(C)]
-pub struct MukTime {
-    pub number: u32,
-    pub time: u64,
-}
-
-// The time of a frame after the time last; refusal 6 where last is over the limit.
+// Refusal 6 where last is over the limit; or 0, and the time of a frame after the time last is written.
 #[no_mangle]
-pub extern "C" fn muk_frame_time(last: u64, counter: u16) -> MukTime
-    ensures { λ r. ⌜ r ≡ timeOf (frameTimeOf last counter) ⌝ }
+pub extern "C" fn muk_frame_time(last: u64, counter: u16, time: &mut u64) -> u32
+    ensures { λ r. ⌜ timed r (now (time .exit)) ≡ timedOf (frameTimeOf last counter) (now (time .entry)) ⌝ }
 {
-    let timed = frame_time::frame_time(last, counter);
-    match timed {
-        Timed::At(time) => MukTime { number: 0, time },
-        Timed::Refused(fault) => MukTime {
-            number: refusal::number(fault),
-            time: 0,
-        },
+    let found = frame_time::frame_time(last, counter);
+    match found {
+        Timed::At(at) => {
+            *time = at;
+            0
+        }
+        Timed::Refused(fault) => refusal_code(fault),
     }
 }

@@ -1,10 +1,14 @@
-// The library as firmware links it; include/muktrashi.h declares it. Every function answers every input and keeps nothing between calls. An
-// exported function may answer no enum, so each answers a struct, whose fields that do not apply are 0.
+// The library as firmware links it; include/muktrashi.h declares it. Every function answers every input with one code and keeps nothing between
+// calls. No struct goes by value in or out of an exported function, so that the calling convention is the same on every processor. A single number
+// behind a pointer is written only where the call gives it.
 
-pub mod call;
+mod call;
+pub mod code;
+pub mod event;
+pub mod frame;
 pub mod frame_time;
-pub mod kept;
 pub mod line;
-pub mod record;
+pub mod run;
 pub mod start;
 pub mod table;
+pub mod version;

@@ -1,51 +1,35 @@
 // The line at a place of a text for C.
 
+use crate::code::refusal_code;
 use lines::frame;
 use lines::frame::FrameFound;
-use rules::refusal;
 ghost use mathlib.Core.Path.{_≡_};
 ghost use Rattle.lines.specs.Frame.{readFrame};
-ghost use Rattle.board.specs.Answers.{lineOf};
+ghost use Rattle.board.specs.Numbers.{line, lineLeft};
 
-// what 0: end; 1: frame, counter and mask; 2: refused, number. next is the place to read on from.
-#[repr(C)]
-pub struct MukLine {
-    pub what: u32,
-    pub number: u32,
-    pub counter: u32,
-    pub mask: u32,
-    pub next: u64,
-}
-
-// The end, a frame, or refusal 8 or 9. Any place may be asked for.
+// The end, a frame, whose counter and mask are written, or refusal 8 or 9. The place becomes the next one. Any place may be asked for.
 #[no_mangle]
-pub extern "C" fn muk_read_frame(text: &[u8], place: usize) -> MukLine
-    ensures { λ r. ⌜ r ≡ lineOf (readFrame (now (text .entry)) place) ⌝ }
+pub extern "C" fn muk_read_frame(
+    text: &[u8],
+    place: &mut u64,
+    counter: &mut u16,
+    mask: &mut u32,
+) -> u32
+    ensures { λ r. ⌜ line r (now (place .exit)) (now (counter .exit)) (now (mask .exit)) ≡ lineLeft (readFrame (now (text .entry)) (now (place .entry))) (now (counter .entry)) (now (mask .entry)) ⌝ }
 {
-    let read = frame::read_frame(text, place);
-    let next = read.next as u64;
+    let read = frame::read_frame(text, *place as usize);
+    *place = read.next as u64;
     let found = read.found;
     match found {
-        FrameFound::End => MukLine {
-            what: 0,
-            number: 0,
-            counter: 0,
-            mask: 0,
-            next,
-        },
-        FrameFound::Frame { counter, mask } => MukLine {
-            what: 1,
-            number: 0,
-            counter: counter as u32,
-            mask,
-            next,
-        },
-        FrameFound::Refused(fault) => MukLine {
-            what: 2,
-            number: refusal::number(fault),
-            counter: 0,
-            mask: 0,
-            next,
-        },
+        FrameFound::End => 0,
+        FrameFound::Frame {
+            counter: shown,
+            mask: pads,
+        } => {
+            *counter = shown;
+            *mask = pads;
+            1
+        }
+        FrameFound::Refused(fault) => refusal_code(fault),
     }
 }

@@ -1,38 +1,35 @@
-// The start for C.
+// The start for C. The record is written where it stands.
 
-use crate::record::MukRecord;
-use crate::record::bytes_of;
+use crate::code::Coded;
+use crate::code::refusal_code;
 use monitor::answer::StartAnswer;
+use monitor::record::Record;
 use monitor::start;
-use rules::refusal;
 ghost use mathlib.Core.Path.{_≡_};
-ghost use Rattle.board.specs.Outcomes.{left, startOn};
+ghost use Rattle.monitor.specs.Start.{startOf};
+ghost use Rattle.board.specs.Left.{left, startedOf};
 
-// number 0: started; otherwise the refusal, with an all-zero record.
-#[repr(C)]
-pub struct MukStarted {
-    pub number: u32,
-    pub row: u32,
-    pub record: MukRecord,
+// Refusals 1 to 4 and an all-zero record; or a record that has seen no event, and zeros in the words of the need.
+#[no_mangle]
+pub extern "C" fn muk_start(table: &[u32], store: &mut [u64], kept: &mut Record) -> u32
+    ensures { λ r. ⌜ left r (now (kept .exit)) (now (store .exit)) ≡ startedOf (startOf (now (table .entry)) (now (store .entry))) ⌝ }
+{
+    let started = start_coded(table, store);
+    *kept = started.record;
+    started.code
 }
 
-// Refusals 1 to 4, or a record that has seen no event and zeros in the words of the need.
-#[no_mangle]
-pub extern "C" fn muk_start(table: &[u32], store: &mut [u64]) -> MukStarted
-    ensures { λ r. ⌜ left r (now (store .exit)) ≡ startOn (now (table .entry)) (now (store .entry)) ⌝ }
+// The same with the record handed back.
+fn start_coded(table: &[u32], store: &mut [u64]) -> Coded
+    ensures { λ r. ⌜ left (r .code) (r .record) (now (store .exit)) ≡ startedOf (startOf (now (table .entry)) (now (store .entry))) ⌝ }
 {
     let started = start::start(table, store);
-    let record = bytes_of(started.record);
+    let record = started.record;
     let answer = started.answer;
     match answer {
-        StartAnswer::Good => MukStarted {
-            number: 0,
-            row: 0,
-            record,
-        },
-        StartAnswer::Refused(fault) => MukStarted {
-            number: refusal::number(fault),
-            row: refusal::row(fault),
+        StartAnswer::Good => Coded { code: 0, record },
+        StartAnswer::Refused(fault) => Coded {
+            code: refusal_code(fault),
             record,
         },
     }

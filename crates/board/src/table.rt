@@ -1,39 +1,27 @@
 // The table check for C.
 
-use rules::refusal;
+use crate::code::refusal_code;
 use rules::table;
 use rules::table::Checked;
 ghost use mathlib.Core.Path.{_≡_};
 ghost use Rattle.rules.specs.Table.{checkOf};
-ghost use Rattle.board.specs.Answers.{checkedOf};
+ghost use Rattle.board.specs.Numbers.{checked, checkedOf};
 
-// number 0: taken, with the row count and the need in words; otherwise the refusal.
-#[repr(C)]
-pub struct MukChecked {
-    pub number: u32,
-    pub row: u32,
-    pub rows: u32,
-    pub need: u64,
-}
-
-// Refusals 1 to 3, or the row count and the need.
+// Refusals 1 to 3; or 0, and the row count and the need are written.
 #[no_mangle]
-pub extern "C" fn muk_check(table: &[u32]) -> MukChecked
-    ensures { λ r. ⌜ r ≡ checkedOf (checkOf (now (table .entry))) ⌝ }
+pub extern "C" fn muk_check(table: &[u32], rows: &mut u32, need: &mut u64) -> u32
+    ensures { λ r. ⌜ checked r (now (rows .exit)) (now (need .exit)) ≡ checkedOf (checkOf (now (table .entry))) (now (rows .entry)) (now (need .entry)) ⌝ }
 {
     let checked = table::check(table);
     match checked {
-        Checked::Passed { rows, need } => MukChecked {
-            number: 0,
-            row: 0,
-            rows,
-            need,
-        },
-        Checked::Refused(fault) => MukChecked {
-            number: refusal::number(fault),
-            row: refusal::row(fault),
-            rows: 0,
-            need: 0,
-        },
+        Checked::Passed {
+            rows: counted,
+            need: words,
+        } => {
+            *rows = counted;
+            *need = words;
+            0
+        }
+        Checked::Refused(fault) => refusal_code(fault),
     }
 }

@@ -1,4 +1,4 @@
--- `board::line::muk_read_frame` meets its contract: what was found at the place, for C. Assumes nothing.
+-- `board::line::muk_read_frame` meets its contract: what was found at the place. Assumes nothing.
 use mathlib.Core.Path.{refl}
 use borrow.Author.Needs.{needs}
 use Rattle.board.proofs.LineLaws.{line-told}
@@ -14,23 +14,20 @@ enum-told c = search needs
 enum-known-found : tie.Need-enum-known-found
 enum-known-found c = search needs
 
-cast-t10 : tie.Need-cast-t10
-cast-t10 c = search needs
-
 enum-known-found-2 : tie.Need-enum-known-found-2
 enum-known-found-2 c = search needs
 
-number-requires : tie.Need-number-requires
-number-requires c κs = search needs
+refusal-code-requires : tie.Need-refusal-code-requires
+refusal-code-requires c κs = search needs
 
 returns : tie.Need-returns
-returns c = line-told _ _ (c .before .before .read-frame .ensures) (c .enum-told .given .1) refl
+returns c = line-told _ _ _ _ (c .before .before .read-frame .ensures) (c .enum-told .given .1) refl
 
 returns-2 : tie.Need-returns-2
-returns-2 c = line-told _ _ (c .before .before .before .read-frame .ensures) (c .before .found .given .1) refl
+returns-2 c = line-told _ _ _ _ (c .before .before .before .read-frame .ensures) (c .before .found .given .1) refl
 
 returns-3 : tie.Need-returns-3
-returns-3 c = line-told _ _ (c .before .before .before .before .read-frame .ensures) (c .before .before .found2 .given .1) (rw (c .number .ensures))
+returns-3 c = line-told _ _ _ _ (c .before .before .before .before .read-frame .ensures) (c .before .before .found2 .given .1) (rw (c .refusal-code .ensures))
 
 pub muk-read-frame-spec : {M : Type 1} → statement M
 muk-read-frame-spec =
@@ -39,9 +36,8 @@ muk-read-frame-spec =
     read-frame-requires
     enum-told
     enum-known-found
-    cast-t10
     enum-known-found-2
-    number-requires
+    refusal-code-requires
     returns
     returns-2
     returns-3)

@@ -1,0 +1,29 @@
+-- What a call answers, as one number of 32 bits. Bits 16 to 23 are a refusal's number, 0 where nothing is refused; bits 0 to 15 are the verdict, or the
+-- refusal's row. The bits above 23 are 0: room for a moved clock and for an offset.
+use mathlib.Core.Bool.{cond}
+use mathlib.Core.Option.{Option, none, some}
+use Prim.Native.Nat.{ℕ, _+_, _*_, _%_}
+use Rattle.refusals.specs.Refusals.{Refused, rowIn}
+use Rattle.monitor.specs.Step.{Reply, verdict, refusal}
+
+-- Sixteen bits are left for a verdict.
+abbrev pub verdictRoom : ℕ
+verdictRoom = 65_536
+
+-- A refusal's number has eight bits.
+abbrev pub numberRoom : ℕ
+numberRoom = 256
+
+-- A refusal's number above the verdict's bits, and its row in them, 0 where it has none.
+abbrev pub refusalCode : Refused → ℕ
+refusalCode fault = fault .number * verdictRoom + rowIn fault % verdictRoom
+
+-- The verdict, 0 or 1; or the refusal's code.
+abbrev pub codeOf : Reply → ℕ
+codeOf (verdict holds) = cond holds 1 0
+codeOf (refusal fault) = refusalCode fault
+
+-- 0 where nothing is refused and there is nothing else to say.
+abbrev pub refusedCode : Option Refused → ℕ
+refusedCode none = 0
+refusedCode (some fault) = refusalCode fault

@@ -1,0 +1,45 @@
+// One event for C. The record stays where it is and is changed there.
+
+use crate::code::Coded;
+use crate::code::code;
+use monitor::record::Record;
+use monitor::step;
+ghost use mathlib.Core.Path.{_≡_};
+ghost use Rattle.monitor.specs.Step as Step;
+ghost use Rattle.monitor.specs.Step.{setupOf, stepOf};
+ghost use Rattle.board.specs.Left.{left, codedOf};
+
+// Refusals 1 to 4, then 7, 6, 5, or the verdict.
+#[no_mangle]
+pub extern "C" fn muk_event(
+    table: &[u32],
+    store: &mut [u64],
+    kept: &mut Record,
+    time: u64,
+    mask: u32,
+) -> u32
+    ensures { λ r. ⌜ left r (now (kept .exit)) (now (store .exit)) ≡ codedOf (stepOf (setupOf (now (table .entry))) (now (store .entry)) (now (kept .entry)) (Step.event time mask)) ⌝ }
+{
+    let judged = event_coded(table, store, *kept, time, mask);
+    *kept = judged.record;
+    judged.code
+}
+
+// The same with the record handed in and back.
+pub(crate) fn event_coded(
+    table: &[u32],
+    store: &mut [u64],
+    found: Record,
+    time: u64,
+    mask: u32,
+) -> Coded
+    ensures { λ r. ⌜ left (r .code) (r .record) (now (store .exit)) ≡ codedOf (stepOf (setupOf (now (table .entry))) (now (store .entry)) found (Step.event time mask)) ⌝ }
+{
+    let judged = step::event(table, store, found, time, mask);
+    let answer = judged.answer;
+    let record = judged.record;
+    Coded {
+        code: code(answer),
+        record,
+    }
+}

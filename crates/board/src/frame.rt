@@ -1,0 +1,45 @@
+// One frame for C: an event at the time that its counter shows. The record stays where it is and is changed there.
+
+use crate::code::Coded;
+use crate::code::code;
+use monitor::record::Record;
+use monitor::step;
+ghost use mathlib.Core.Path.{_≡_};
+ghost use Rattle.monitor.specs.Step as Step;
+ghost use Rattle.monitor.specs.Step.{setupOf, stepOf};
+ghost use Rattle.board.specs.Left.{left, codedOf};
+
+// What an event at that time answers.
+#[no_mangle]
+pub extern "C" fn muk_frame(
+    table: &[u32],
+    store: &mut [u64],
+    kept: &mut Record,
+    counter: u16,
+    mask: u32,
+) -> u32
+    ensures { λ r. ⌜ left r (now (kept .exit)) (now (store .exit)) ≡ codedOf (stepOf (setupOf (now (table .entry))) (now (store .entry)) (now (kept .entry)) (Step.frame counter mask)) ⌝ }
+{
+    let judged = frame_coded(table, store, *kept, counter, mask);
+    *kept = judged.record;
+    judged.code
+}
+
+// The same with the record handed in and back.
+pub(crate) fn frame_coded(
+    table: &[u32],
+    store: &mut [u64],
+    found: Record,
+    counter: u16,
+    mask: u32,
+) -> Coded
+    ensures { λ r. ⌜ left (r .code) (r .record) (now (store .exit)) ≡ codedOf (stepOf (setupOf (now (table .entry))) (now (store .entry)) found (Step.frame counter mask)) ⌝ }
+{
+    let judged = step::frame(table, store, found, counter, mask);
+    let answer = judged.answer;
+    let record = judged.record;
+    Coded {
+        code: code(answer),
+        record,
+    }
+}

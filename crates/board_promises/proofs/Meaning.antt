@@ -1,0 +1,96 @@
+-- The code of a call after calls in place is that of the stream's reply, so the promise of the verdicts is read off it: the call is kept, or its time is
+-- over the limit, or it is below the last.
+use mathlib.Core.Bool.{Bool, true, false}
+use mathlib.Core.List.{List}
+use mathlib.Core.Logic.{_↔_, inl, inr, ⊎-elim}
+use mathlib.Core.Path.{_≡_, refl, ap, _∙_}
+use native.Mathlib.Omega.{arith}
+use Prim.Native.Nat.{ℕ, _≤_, _<_}
+use lib.Dec.{T}
+use Rattle.meaning.specs.Formula.{Holds}
+use Rattle.meaning.proofs.SpansLaws.{le-or-lt}
+use Rattle.refusals.specs.Refusals.{refused}
+use Rattle.refusals.specs.declared.refusal.Refusal.the-variants.{Earlier, Late}
+use Rattle.times.specs.Times.{timeLimit}
+use Rattle.monitor.specs.Step.{Call, timeOf, verdict}
+use Rattle.promises.specs.Stream.{Starts, Keeps, clock, longer, outcome}
+use Rattle.promises.specs.Verdicts.{Answered, judgedFormula}
+use Rattle.promises.proofs.Verdicts.{truths-are-meaning, verdict-is-meaning}
+use Rattle.board.specs.Code.{codeOf, refusalCode}
+use Rattle.board.specs.Left.{Left}
+use Rattle.board_promises.specs.Meaning.{CodeMeant, CodesTellTheMeaning}
+use Rattle.board_promises.proofs.Starting.{start-is-the-streams}
+use Rattle.board_promises.proofs.Calls.{calls-are-the-stream}
+
+module _ (table : List ℕ) (calls : List Call) (c : Call) (code : ℕ) where
+  kept-meant : (holds : Bool)
+      → code ≡ codeOf (verdict holds)
+      → Keeps (clock calls) c
+      → T holds ↔ Holds (judgedFormula table) (longer calls c)
+      → CodeMeant table calls c code
+  kept-meant true is keeps means =
+      record {
+        judged = (λ small. keeps, λ _. omega arith);
+        bit = λ small. inr is;
+        yes = λ small. (λ one. means .0 tt, λ holding. is);
+        late = λ over. absurd (omega (arith, keeps .within));
+        earlier = λ within below. absurd (omega (arith, keeps .risen));
+        number = λ large. absurd (omega arith);
+      }
+  kept-meant false is keeps means =
+      record {
+        judged = (λ small. keeps, λ _. omega arith);
+        bit = λ small. inl is;
+        yes = λ small. (λ one. absurd (omega arith), λ holding. absurd (means .1 holding));
+        late = λ over. absurd (omega (arith, keeps .within));
+        earlier = λ within below. absurd (omega (arith, keeps .risen));
+        number = λ large. absurd (omega arith);
+      }
+
+  late-meant : timeLimit < timeOf (clock calls) c → code ≡ refusalCode (refused Late) → CodeMeant table calls c code
+  late-meant over is =
+      record {
+        judged = (λ small. absurd (omega arith), λ keeps. absurd (omega (arith, keeps .within)));
+        bit = λ small. absurd (omega arith);
+        yes = λ small. absurd (omega arith);
+        late = λ _. is;
+        earlier = λ within below. absurd (omega arith);
+        number = λ large. inl (omega arith);
+      }
+
+  earlier-meant : timeOf (clock calls) c ≤ timeLimit
+      → timeOf (clock calls) c < clock calls
+      → code ≡ refusalCode (refused Earlier)
+      → CodeMeant table calls c code
+  earlier-meant within below is =
+      record {
+        judged = (λ small. absurd (omega arith), λ keeps. absurd (omega (arith, keeps .risen)));
+        bit = λ small. absurd (omega arith);
+        yes = λ small. absurd (omega arith);
+        late = λ over. absurd (omega arith);
+        earlier = λ _ _. is;
+        number = λ large. inr (omega arith);
+      }
+
+  reply-meant : (lent : List ℕ) → Starts table lent → code ≡ codeOf (outcome table lent calls c .reply) → CodeMeant table calls c code
+  reply-meant lent starts is =
+      let answered : Answered table lent calls c = truths-are-meaning table lent starts calls c .answered in
+      ⊎-elim
+      (λ within.
+      ⊎-elim
+      (λ risen.
+      let keeps : Keeps (clock calls) c = record { within = within; risen = risen } in
+      let told = answered .judged keeps in
+      kept-meant (told .0) (is ∙ ap codeOf (told .1)) keeps (verdict-is-meaning table lent starts calls c (told .0) (told .1) .holding))
+      (λ below. earlier-meant within below (is ∙ ap codeOf (answered .earlier within below)))
+      (le-or-lt (clock calls) (timeOf (clock calls) c)))
+      (λ over. late-meant over (is ∙ ap codeOf (answered .late over)))
+      (le-or-lt (timeOf (clock calls) c) timeLimit)
+
+pub codes-tell-the-meaning : CodesTellTheMeaning
+codes-tell-the-meaning table lent store found calls codes between stand c code kept words start made last =
+    let starts : Starts table lent = start-is-the-streams table lent 0 found store start .good .0 refl in
+    let so-far = calls-are-the-stream .from-start table lent store found calls codes between stand start made in
+    let is : code ≡ codeOf (outcome table lent calls c .reply) =
+    ap (λ (l : Left). l .code) last ∙ rw (so-far .kept-is, so-far .words-are) in
+    reply-meant table calls c code lent starts is

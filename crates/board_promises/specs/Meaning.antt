@@ -1,0 +1,33 @@
+-- What the code of a call means, after a good start and any calls in place: below 65,536 it is the verdict, 1 exactly when the formula judged holds over
+-- the kept events and this one; any other is that of 6 or 5.
+use mathlib.Core.List.{List}
+use mathlib.Core.Logic.{_⊎_, _↔_}
+use mathlib.Core.Path.{_≡_}
+use Prim.Native.Nat.{ℕ, _≤_, _<_, _/_}
+use Rattle.meaning.specs.Formula.{Holds}
+use Rattle.refusals.specs.Refusals.{refused, numberOf}
+use Rattle.refusals.specs.declared.refusal.Refusal.the-variants.{Earlier, Late}
+use Rattle.times.specs.Times.{timeLimit}
+use Rattle.monitor.specs.declared.record.Record.{Record}
+use Rattle.monitor.specs.Step.{Call, timeOf}
+use Rattle.promises.specs.Stream.{Keeps, clock, longer}
+use Rattle.promises.specs.Verdicts.{judgedFormula}
+use Rattle.board.specs.Code.{verdictRoom, refusalCode}
+use Rattle.board_promises.specs.Made.{StartMade, CallMade, Made}
+
+pub record CodeMeant (table : List ℕ) (calls : List Call) (c : Call) (code : ℕ) : Type 0 where
+  pub judged : (code < verdictRoom) ↔ Keeps (clock calls) c
+  pub bit : code < verdictRoom → (code ≡ 0) ⊎ (code ≡ 1)
+  pub yes : code < verdictRoom → (code ≡ 1) ↔ Holds (judgedFormula table) (longer calls c)
+  pub late : timeLimit < timeOf (clock calls) c → code ≡ refusalCode (refused Late)
+  pub earlier : timeOf (clock calls) c ≤ timeLimit → timeOf (clock calls) c < clock calls → code ≡ refusalCode (refused Earlier)
+  pub number : verdictRoom ≤ code → (code / verdictRoom ≡ numberOf Late) ⊎ (code / verdictRoom ≡ numberOf Earlier)
+
+-- A start that answered 0, calls in place, and one call more where they left record and words.
+abbrev pub CodesTellTheMeaning : Type 0
+CodesTellTheMeaning = (table lent store : List ℕ) (found : Record) (calls : List Call) (codes : List ℕ) (between : Record) (stand : List ℕ)
+    (c : Call) (code : ℕ) (kept : Record) (words : List ℕ)
+    → StartMade table lent 0 found store
+    → Made table store found calls codes between stand
+    → CallMade table stand between c code kept words
+    → CodeMeant table calls c code

@@ -1,0 +1,39 @@
+-- What a refused call of C leaves, from any table, words and record: "A refused call leaves every word of the store, every field of the record". Of the
+-- bytes between the fields nothing is said.
+use mathlib.Core.List.{List}
+use mathlib.Core.Logic.{_⊎_}
+use mathlib.Core.Path.{_≡_}
+use Prim.Native.Nat.{ℕ, _≤_, _<_}
+use lib.ListN.{length, getD}
+use Rattle.refusals.specs.Refusals.{Refused, refused}
+use Rattle.refusals.specs.declared.refusal.Refusal.the-variants.{Unsound}
+use Rattle.rules.specs.Limits.{rowLimit}
+use Rattle.monitor.specs.declared.record.Record.{Record}
+use Rattle.monitor.specs.Step.{setupOf, Call}
+use Rattle.promises.specs.Conditions.{Ready}
+use Rattle.promises.specs.Refusing.{CallRefused}
+use Rattle.board.specs.Code.{verdictRoom, refusalCode}
+use Rattle.board_promises.specs.Made.{CallMade}
+
+-- A code of 65,536 or more is that of the refusal which the table of refusals names, and no other call has such a code.
+pub record CallTold (table store : List ℕ) (found : Record) (c : Call) (code : ℕ) (kept : Record) (words : List ℕ) : Type 0 where
+  pub refuses : (fault : Refused) → CallRefused (setupOf table) store found c fault → (code ≡ refusalCode fault) × (verdictRoom ≤ code)
+  pub only : verdictRoom ≤ code → (fault : Refused) × CallRefused (setupOf table) store found c fault × (code ≡ refusalCode fault)
+  pub stays : verdictRoom ≤ code → (kept ≡ found) × (words ≡ store)
+
+abbrev pub RefusedCallLeavesAll : Type 0
+RefusedCallLeavesAll = (table store : List ℕ) (found : Record) (c : Call) (code : ℕ) (kept : Record) (words : List ℕ)
+    → CallMade table store found c code kept words
+    → CallTold table store found c code kept words
+
+-- A record that C damaged: a byte other than 0 or 1 where it says whether an event was seen, or where a truth stands.
+abbrev pub Damaged : Record → Type 0
+Damaged found = (1 < found .seen) ⊎ ((row : ℕ) × (row < rowLimit) × (1 < getD (found .truths) row 0))
+
+-- It is answered 7 where table and store are right, and stays as it was.
+abbrev pub DamagedIsRefused : Type 0
+DamagedIsRefused = (table store : List ℕ) (found : Record) (c : Call) (code : ℕ) (kept : Record) (words : List ℕ)
+    → Ready table (length store)
+    → Damaged found
+    → CallMade table store found c code kept words
+    → (code ≡ refusalCode (refused Unsound)) × (kept ≡ found) × (words ≡ store)

@@ -1,0 +1,140 @@
+// Runs of events and of frames over `board`, by p since [2,3] q, with refused calls between. Each run writes the codes of its answers, in hexadecimal (a
+// verdict is 0 or 1, a refusal its number and its row), then the record and the store that it left.
+
+use board::run::run_events;
+use board::run::run_frames;
+use libc::STDOUT_FILENO;
+use monitor::record::Record;
+use monitor::start::start;
+
+// p is bit 0 and q is bit 1 of the mask. The same rule with a kind 7 in row 2, which is refused.
+const P: u32 = 1;
+
+const Q: u32 = 2;
+
+const SINCE: [u32; 15] = [1, 0, 0, 0, 0, 1, 1, 0, 0, 0, 6, 0, 1, 2, 3];
+
+const KIND_7: [u32; 15] = [1, 0, 0, 0, 0, 1, 1, 0, 0, 0, 7, 0, 1, 2, 3];
+
+// The four words of the need, and one past it.
+const WORDS: usize = 5;
+
+// The places for answers, and what a place holds that no code was written to.
+const PLACES: usize = 8;
+
+const UNWRITTEN: u32 = 4_294_967_295;
+
+// The last time that is accepted; its low sixteen bits are all ones.
+const LIMIT: u64 = 281_474_976_710_655;
+
+fn main() {
+    say(b"-- events, one over the limit of time and one below the last\n");
+    let mut space = [9; WORDS];
+    let store: &mut [u64] = &mut space;
+    let begun = start(&SINCE, store);
+    let kept = events(
+        &SINCE,
+        store,
+        begun.record,
+        &[1, 2, 3, LIMIT + 1, 2, 4],
+        &[0, Q, P, P, P, P + Q],
+    );
+    say(b"-- on from there: by another table, with a time that is not sound, and as it was left\n");
+    events(&KIND_7, store, kept, &[5, 6], &[P, P]);
+    events(&SINCE, store, at_time(kept, 9), &[5, 6], &[P, P]);
+    let last = events(&SINCE, store, kept, &[5, LIMIT - 10], &[P, Q]);
+    say(b"-- frames from there, one over the limit of time\n");
+    frames(store, last, &[65_528, 3, 65_535], &[P, P, P]);
+    say(b"-- fewer masks, fewer times, no masks, fewer places for answers\n");
+    begun_again(&[1, 2, 3, 4], &[0, Q, P]);
+    begun_again(&[1, 2], &[0, Q, P, P]);
+    begun_again(&[1, 2], &[]);
+    begun_again(
+        &[1, 1, 1, 1, 2, 2, 2, 2, 3, 4],
+        &[Q, Q, 0, 0, 0, 0, 0, Q, P, P],
+    );
+}
+
+// The record with another time, which its spans need not fit.
+fn at_time(kept: Record, time: u64) -> Record {
+    let mut changed = kept;
+    changed.time = time;
+    changed
+}
+
+fn begun_again(times: &[u64], masks: &[u32]) {
+    let mut space = [9; WORDS];
+    let store: &mut [u64] = &mut space;
+    let begun = start(&SINCE, store);
+    events(&SINCE, store, begun.record, times, masks);
+}
+
+fn events(table: &[u32], store: &mut [u64], found: Record, times: &[u64], masks: &[u32]) -> Record {
+    let mut answers = [UNWRITTEN; PLACES];
+    let kept = run_events(table, store, found, times, masks, &mut answers);
+    told(store, kept, &answers);
+    kept
+}
+
+fn frames(store: &mut [u64], found: Record, counters: &[u16], masks: &[u32]) {
+    let mut answers = [UNWRITTEN; PLACES];
+    let kept = run_frames(&SINCE, store, found, counters, masks, &mut answers);
+    told(store, kept, &answers);
+}
+
+fn told(store: &[u64], kept: Record, answers: &[u32; PLACES]) {
+    say(b"codes");
+    let mut at = 0;
+    while at < PLACES {
+        code_told(answers[at]);
+        at += 1;
+    }
+    record_told(kept);
+    words_told(store);
+}
+
+fn code_told(code: u32) {
+    if code != UNWRITTEN {
+        say(b" ");
+        io::print_hex(STDOUT_FILENO, code as u64, 6);
+    }
+}
+
+// Seen, time and rows; the truth and the span count of the row that is judged.
+fn record_told(kept: Record) {
+    let truths = kept.truths;
+    let counts = kept.counts;
+    say(b"\n  record:");
+    byte(kept.seen);
+    number(kept.time);
+    count(kept.rows);
+    byte(truths[2]);
+    count(counts[2]);
+}
+
+fn words_told(store: &[u64]) {
+    say(b"\n  store:");
+    let mut at = 0;
+    while at < store.len() {
+        number(store[at]);
+        at += 1;
+    }
+    say(b"\n");
+}
+
+fn byte(n: u8) {
+    number(n as u64);
+}
+
+fn count(n: u32) {
+    number(n as u64);
+}
+
+fn number(n: u64) {
+    say(b" ");
+    io::print_decimal(STDOUT_FILENO, n);
+}
+
+fn say(text: &[u8]) {
+    io::write_all(STDOUT_FILENO, text);
+}
