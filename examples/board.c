@@ -1,5 +1,4 @@
 /* A firmware main loop over the monitor: one lane's touches, each taken or dropped as a bounce. The record stays where it is. */
-#include <inttypes.h>
 #include <stdio.h>
 
 #include "muktrashi.h"
@@ -33,34 +32,47 @@ static const uint8_t received[] = "E2F400000001D7\n"  /* 58,100 touch */
                                   "E30A00000001EE\n"  /* 123,658 touch */
                                   "E30E00000001F2\n"; /* 123,662 touch */
 
+/* In two parts, since the printf of a small C library may have no 64-bit numbers. */
+static void print_time(uint64_t time) {
+    const uint32_t part = 1000000000;
+    if (time < part)
+        printf("%lu", (unsigned long)time);
+    else
+        printf("%lu%09lu", (unsigned long)(time / part), (unsigned long)(time % part));
+}
+
 static int start(void) {
-    muk_started started = muk_start(rules, RULES, store, STORE);
-    record = started.record;
-    if (started.number != 0)
-        printf("start refused %" PRIu32 ", row %" PRIu32 "\n", started.number, started.row);
-    return started.number == 0;
+    uint32_t code = muk_start(rules, RULES, store, STORE, &record);
+    if (muk_refusal(code) != 0)
+        printf("start refused %u, row %u\n", (unsigned)muk_refusal(code), (unsigned)muk_row(code));
+    return muk_refusal(code) == 0;
 }
 
 int main(void) {
-    size_t place = 0;
+    uint64_t place = 0;
+    if (muk_version() != MUK_VERSION) {
+        printf("the header is of another library\n");
+        return 1;
+    }
     if (!start())
         return 1;
     for (;;) {
-        muk_line line = muk_read_frame(received, sizeof received - 1, place);
-        if (line.what == MUK_END)
+        uint16_t counter;
+        uint32_t mask, code = muk_read_frame(received, sizeof received - 1, &place, &counter, &mask);
+        if (code == MUK_END)
             return 0; /* A board would wait here for more, whole lines only: one that the text's end cuts off is refused 8. */
-        place = (size_t)line.next;
-        if (line.what == MUK_BAD_LINE) {
-            printf("line refused %" PRIu32 "\n", line.number);
-            continue;
+        if (muk_refusal(code) != 0) {
+            printf("line refused %u\n", (unsigned)muk_refusal(code));
+            continue; /* The place is past the bad line. */
         }
-        muk_answer answer = muk_frame_in(rules, RULES, store, STORE, &record, (uint16_t)line.counter, line.mask);
-        if (answer.what == MUK_REFUSED) {
-            printf("frame refused %" PRIu32 "\n", answer.number);
-            if (answer.number == 7 && !start()) /* The record or the store was damaged: begin again. */
+        code = muk_frame(rules, RULES, store, STORE, &record, counter, mask);
+        if (muk_refusal(code) != 0) {
+            printf("frame refused %u\n", (unsigned)muk_refusal(code));
+            if (muk_refusal(code) == MUK_UNSOUND && !start()) /* The record or the store was damaged: begin again. */
                 return 1;
-        } else if (line.mask & 1) {
-            printf("%" PRIu64 " ms: touch %s\n", record.time, answer.verdict ? "taken" : "dropped");
+        } else if (mask & 1) {
+            print_time(record.time);
+            printf(" ms: touch %s\n", muk_verdict(code) ? "taken" : "dropped");
         }
     }
 }

@@ -1,6 +1,5 @@
-/* Each function that include/muktrashi.h declares, with an answer that is known and with a refusal, and where each field of each struct lies in the
- * archive. examples/board.c calls three of the functions, and tests/reference/ has declarations of its own. */
-#include <inttypes.h>
+/* Each function that include/muktrashi.h declares, with an answer that is known and with a refusal, what refused calls leave, and where each field of the
+ * record lies. examples/board.c calls four of the functions, and tests/reference/ has declarations of its own. */
 #include <stdio.h>
 #include <string.h>
 
@@ -10,178 +9,233 @@ static int failures;
 
 static void same(const char *what, uint64_t found, uint64_t wanted) {
     if (found != wanted) {
-        fprintf(stderr, "header.c: %s is %" PRIu64 ", not %" PRIu64 "\n", what, found, wanted);
+        fprintf(stderr, "header.c: %s is %llu, not %llu\n", what, (unsigned long long)found, (unsigned long long)wanted);
         failures++;
     }
 }
 
 #define SAME(found, wanted) same(#found, (uint64_t)(found), (uint64_t)(wanted))
-#define SIZE(type, wanted) SAME(sizeof(type), wanted)
-#define AT(type, field, wanted) same("the place of " #field " in " #type, (uint64_t)offsetof(type, field), wanted)
+#define AT(field, place, size) \
+    same("the place of " #field, (uint64_t)offsetof(muk_record, field), place), same("the size of " #field, (uint64_t)sizeof one.field, size)
 
 static void layout(void) {
-    SIZE(muk_record, 344);
-    AT(muk_record, seen, 0);
-    AT(muk_record, time, 8);
-    AT(muk_record, rows, 16);
-    AT(muk_record, truths, 20);
-    AT(muk_record, counts, 84);
-    SIZE(muk_answer, 16);
-    AT(muk_answer, what, 0);
-    AT(muk_answer, number, 4);
-    AT(muk_answer, row, 8);
-    AT(muk_answer, verdict, 12);
-    SIZE(muk_checked, 24);
-    AT(muk_checked, number, 0);
-    AT(muk_checked, row, 4);
-    AT(muk_checked, rows, 8);
-    AT(muk_checked, need, 16);
-    SIZE(muk_started, 352);
-    AT(muk_started, number, 0);
-    AT(muk_started, row, 4);
-    AT(muk_started, record, 8);
-    SIZE(muk_judged, 360);
-    AT(muk_judged, answer, 0);
-    AT(muk_judged, record, 16);
-    SIZE(muk_time, 16);
-    AT(muk_time, number, 0);
-    AT(muk_time, time, 8);
-    SIZE(muk_line, 24);
-    AT(muk_line, what, 0);
-    AT(muk_line, number, 4);
-    AT(muk_line, counter, 8);
-    AT(muk_line, mask, 12);
-    AT(muk_line, next, 16);
+    static const muk_record one;
+    SAME(sizeof one, 344);
+    AT(seen, 0, 1);
+    AT(time, 8, 8);
+    AT(rows, 16, 4);
+    AT(truths, 20, MUK_ROWS);
+    AT(counts, 84, 4 * MUK_ROWS);
 }
 
 /* Bit 0 exactly 2 ms ago. */
 static const uint32_t rules[] = {1, 0, 0, 0, 0, 0, 0, 0, 0, 0, 6, 1, 0, 2, 2};
-/* The same, but its last row has a over b: refusal 3, row 2. */
-static const uint32_t bad_rules[] = {1, 0, 0, 0, 0, 0, 0, 0, 0, 0, 6, 1, 0, 2, 1};
+/* The same, but its last row names itself: refusal 2, row 2; or has a over b: refusal 3, row 2. */
+static const uint32_t bad_row[] = {1, 0, 0, 0, 0, 0, 0, 0, 0, 0, 6, 1, 2, 2, 2};
+static const uint32_t bad_limits[] = {1, 0, 0, 0, 0, 0, 0, 0, 0, 0, 6, 1, 0, 2, 1};
 
 #define NUMBERS (sizeof rules / sizeof rules[0])
-#define STORE 4
+#define NEED 4
+/* The word past the need. */
+#define PAST UINT64_C(0x5A5A5A5A5A5A5A5A)
 /* A mask with bit 0 and a time that narrower numbers have no room for. */
 #define MASK UINT32_C(0x10001)
 #define TIME UINT64_C(5000000000)
+#define TIME_LIMIT UINT64_C(281474976710655)
+/* What a number that is cut to 32 bits loses. Only a test may lend a row by such a length: these calls end, or need no more, before its end. */
+#define HIGH UINT64_C(0x100000000)
+/* What the single numbers hold where a call must leave them. */
+#define ODD16 UINT16_C(0xBEEF)
+#define ODD32 UINT32_C(0xDEADBEEF)
+#define ODD64 UINT64_C(0xDEADBEEFCAFEF00D)
 
-/* The second of two events or frames with bit 0, 2 ms apart: the verdict is yes, and the spans are `time` and `time` + 2. */
-static void second(const char *function, muk_answer answer, const muk_record *record, const uint64_t *store, uint64_t time) {
-    int before = failures, row;
-    SAME(answer.what, MUK_VERDICT);
-    SAME(answer.number, 0);
-    SAME(answer.row, 0);
-    SAME(answer.verdict, 1);
-    SAME(record->seen, 1);
-    SAME(record->time, time);
-    SAME(record->rows, 3);
+static uint64_t store[NEED + 1];
+static muk_record record;
+
+static uint32_t refusal(uint32_t number, uint32_t row) {
+    return number << 16 | row;
+}
+
+static void start(void) {
+    int row;
+    memset(&record, 0xFF, sizeof record);
+    memset(store, 0xFF, sizeof store);
+    store[NEED] = PAST;
+    SAME(muk_start(rules, NUMBERS, store, NEED + 1, &record), 0);
+    SAME(record.seen, 0);
+    SAME(record.time, 0);
+    SAME(record.rows, 3);
     for (row = 0; row < MUK_ROWS; row++) {
-        SAME(record->truths[row], row < 3 ? 1 : 0);
-        SAME(record->counts[row], row == 2 ? 2 : 0);
+        SAME(record.truths[row], 0);
+        SAME(record.counts[row], 0);
+    }
+    for (row = 0; row < NEED; row++)
+        SAME(store[row], 0);
+    SAME(store[NEED], PAST);
+}
+
+/* After the second of two events or frames with bit 0, 2 ms apart: the spans are `time` and `time` + 2. */
+static void second(const char *function, uint32_t code, uint64_t time) {
+    int before = failures, row;
+    SAME(code, 1);
+    SAME(muk_refusal(code), 0);
+    SAME(muk_verdict(code), 1);
+    SAME(record.seen, 1);
+    SAME(record.time, time);
+    SAME(record.rows, 3);
+    for (row = 0; row < MUK_ROWS; row++) {
+        SAME(record.truths[row], row < 3 ? 1 : 0);
+        SAME(record.counts[row], row == 2 ? 2 : 0);
     }
     SAME(store[0], time);
     SAME(store[1], time);
     SAME(store[2], time + 2);
     SAME(store[3], time + 2);
+    SAME(store[NEED], PAST);
     if (failures > before)
         fprintf(stderr, "header.c: this was %s\n", function);
 }
 
-static void refused(const char *function, muk_answer answer, uint32_t number, uint32_t row) {
+static void same_records(const muk_record *found, const muk_record *wanted) {
+    int row;
+    SAME(found->seen, wanted->seen);
+    SAME(found->time, wanted->time);
+    SAME(found->rows, wanted->rows);
+    for (row = 0; row < MUK_ROWS; row++) {
+        SAME(found->truths[row], wanted->truths[row]);
+        SAME(found->counts[row], wanted->counts[row]);
+    }
+}
+
+/* An event and a frame that are refused alike and leave store and record. */
+static void refused(uint32_t number, uint32_t row, const uint32_t *table, uint64_t table_len, uint64_t store_len, uint64_t time, uint16_t counter) {
     int before = failures;
-    SAME(answer.what, MUK_REFUSED);
-    SAME(answer.number, number);
-    SAME(answer.row, row);
-    SAME(answer.verdict, 0);
+    muk_record record_before = record;
+    uint64_t store_before[NEED + 1];
+    memcpy(store_before, store, sizeof store);
+    SAME(muk_event(table, table_len, store, store_len, &record, time, MASK), refusal(number, row));
+    SAME(muk_frame(table, table_len, store, store_len, &record, counter, MASK), refusal(number, row));
+    SAME(memcmp(store_before, store, sizeof store), 0);
+    same_records(&record, &record_before);
     if (failures > before)
-        fprintf(stderr, "header.c: this was %s\n", function);
+        fprintf(stderr, "header.c: this was refusal %u\n", (unsigned)number);
 }
 
-static muk_record started(uint64_t *store) {
-    muk_started good = muk_start(rules, NUMBERS, store, STORE);
-    SAME(good.number, 0);
-    SAME(good.row, 0);
-    SAME(good.record.seen, 0);
-    SAME(good.record.time, 0);
-    SAME(good.record.rows, 3);
-    return good.record;
+static void codes(void) {
+    SAME(muk_version(), MUK_VERSION);
+    SAME(muk_refusal(refusal(MUK_BAD_LIMITS, 63)), 3);
+    SAME(muk_row(refusal(MUK_BAD_LIMITS, 63)), 63);
+    SAME(muk_verdict(refusal(MUK_BAD_LIMITS, 63)), 0);
+    SAME(muk_row(1), 0);
 }
 
-static void table(uint64_t *store) {
-    muk_checked good = muk_check(rules, NUMBERS), bad = muk_check(bad_rules, NUMBERS);
-    muk_started not_started = muk_start(bad_rules, NUMBERS, store, STORE);
-    SAME(good.number, 0);
-    SAME(good.row, 0);
-    SAME(good.rows, 3);
-    SAME(good.need, STORE);
-    SAME(bad.number, 3);
-    SAME(bad.row, 2);
-    SAME(bad.rows, 0);
-    SAME(bad.need, 0);
-    SAME(not_started.number, 3);
-    SAME(not_started.row, 2);
-    SAME(not_started.record.rows, 0);
-    SAME(muk_start(NULL, 0, NULL, 0).number, 1);
+static void checks(void) {
+    uint32_t rows = ODD32;
+    uint64_t need = ODD64;
+    SAME(muk_check(NULL, 0, &rows, &need), refusal(MUK_BAD_LENGTH, 0));
+    SAME(muk_check(rules, NUMBERS - 1, &rows, &need), refusal(MUK_BAD_LENGTH, 0));
+    SAME(muk_check(rules, HIGH * 5 + NUMBERS, &rows, &need), refusal(MUK_BAD_LENGTH, 0));
+    SAME(muk_check(bad_row, NUMBERS, &rows, &need), refusal(MUK_BAD_ROW, 2));
+    SAME(muk_check(bad_limits, NUMBERS, &rows, &need), refusal(MUK_BAD_LIMITS, 2));
+    SAME(rows, ODD32);
+    SAME(need, ODD64);
+    SAME(muk_check(rules, NUMBERS, &rows, &need), 0);
+    SAME(rows, 3);
+    SAME(need, NEED);
 }
 
-static void by_value(uint64_t *store) {
-    muk_judged judged = muk_event(rules, NUMBERS, store, STORE, started(store), TIME, MASK);
-    judged = muk_event(rules, NUMBERS, store, STORE, judged.record, TIME + 2, MASK);
-    second("muk_event", judged.answer, &judged.record, store, TIME + 2);
-    refused("muk_event", muk_event(bad_rules, NUMBERS, store, STORE, judged.record, TIME + 2, MASK).answer, 3, 2);
-
-    judged = muk_frame(rules, NUMBERS, store, STORE, started(store), 65535, MASK);
-    judged = muk_frame(rules, NUMBERS, store, STORE, judged.record, 1, MASK);
-    second("muk_frame", judged.answer, &judged.record, store, 65537);
-    refused("muk_frame", muk_frame(bad_rules, NUMBERS, store, STORE, judged.record, 1, MASK).answer, 3, 2);
+static void starts(void) {
+    static const muk_record zero;
+    static const uint32_t holds[] = {0, 0, 0, 0, 0};
+    uint64_t odd[NEED] = {ODD64, ODD64, ODD64, ODD64};
+    start();
+    SAME(muk_start(bad_limits, NUMBERS, odd, NEED, &record), refusal(MUK_BAD_LIMITS, 2));
+    same_records(&record, &zero);
+    start();
+    SAME(muk_start(rules, NUMBERS, odd, NEED - 1, &record), refusal(MUK_SHORT_STORE, 0));
+    same_records(&record, &zero);
+    SAME(odd[0], ODD64);
+    SAME(odd[NEED - 1], ODD64);
+    SAME(muk_start(rules, NUMBERS, odd, HIGH, &record), 0);
+    SAME(odd[NEED - 1], 0);
+    /* A need of 0 is met by no store at all. */
+    SAME(muk_start(holds, 5, NULL, 0, &record), 0);
+    SAME(record.rows, 1);
+    SAME(muk_event(holds, 5, NULL, 0, &record, 0, 0), 1);
 }
 
-static void in_place(uint64_t *store) {
-    muk_record record = started(store);
-    muk_event_in(rules, NUMBERS, store, STORE, &record, TIME, MASK);
-    second("muk_event_in", muk_event_in(rules, NUMBERS, store, STORE, &record, TIME + 2, MASK), &record, store, TIME + 2);
-    refused("muk_event_in", muk_event_in(rules, NUMBERS, store, STORE, &record, TIME + 1, MASK), 5, 0);
-    SAME(record.time, TIME + 2);
+static void events(void) {
+    start();
+    SAME(muk_event(rules, NUMBERS, store, NEED + 1, &record, TIME, MASK), 0);
+    second("muk_event", muk_event(rules, NUMBERS, store, NEED + 1, &record, TIME + 2, MASK), TIME + 2);
+    SAME(muk_event(rules, NUMBERS, store, NEED, &record, TIME + 1, MASK), refusal(MUK_EARLIER, 0));
+    second("muk_event, then one that is refused", 1, TIME + 2);
 
-    record = started(store);
-    muk_frame_in(rules, NUMBERS, store, STORE, &record, 65535, MASK);
-    second("muk_frame_in", muk_frame_in(rules, NUMBERS, store, STORE, &record, 1, MASK), &record, store, 65537);
+    start();
+    SAME(muk_frame(rules, NUMBERS, store, NEED, &record, 65535, MASK), 0);
+    second("muk_frame", muk_frame(rules, NUMBERS, store, NEED, &record, 1, MASK), 65537);
+
+    refused(MUK_BAD_LENGTH, 0, NULL, 0, NEED, 65537, 1);
+    refused(MUK_BAD_LENGTH, 0, rules, HIGH * 5 + NUMBERS, NEED, 65537, 1);
+    refused(MUK_BAD_ROW, 2, bad_row, NUMBERS, NEED, 65537, 1);
+    refused(MUK_BAD_LIMITS, 2, bad_limits, NUMBERS, NEED, 65537, 1);
+    refused(MUK_SHORT_STORE, 0, rules, NUMBERS, NEED - 1, 65537, 1);
     record.truths[MUK_ROWS - 1] = 255;
-    refused("muk_frame_in", muk_frame_in(rules, NUMBERS, store, STORE, &record, 1, MASK), 7, 0);
-    SAME(record.truths[MUK_ROWS - 1], 255);
+    refused(MUK_UNSOUND, 0, rules, NUMBERS, NEED, 65537, 1);
+    record.truths[MUK_ROWS - 1] = 0;
+    store[3]++;
+    refused(MUK_UNSOUND, 0, rules, NUMBERS, NEED, 65537, 1);
+
+    start();
+    SAME(muk_event(rules, NUMBERS, store, HIGH, &record, TIME_LIMIT, MASK), 0);
+    refused(MUK_LATE, 0, rules, NUMBERS, NEED, TIME_LIMIT + 1, 0);
+}
+
+static void times(void) {
+    uint64_t time = ODD64;
+    SAME(muk_frame_time(TIME_LIMIT + 1, 4, &time), refusal(MUK_LATE, 0));
+    SAME(time, ODD64);
+    SAME(muk_frame_time(65530, 4, &time), 0);
+    SAME(time, 65540);
+    SAME(muk_frame_time(TIME_LIMIT, 65534, &time), 0);
+    SAME(time, TIME_LIMIT + 65535);
 }
 
 static void lines(void) {
-    static const char text[] = "E2F480000001D7\nE2F48000000157\n";
-    size_t length = strlen(text);
-    muk_line wrong_sum = muk_read_frame((const uint8_t *)text, length, 0), frame, end;
-    muk_time time = muk_frame_time(65530, 4), over = muk_frame_time(UINT64_C(281474976710656), 4);
-    SAME(wrong_sum.what, MUK_BAD_LINE);
-    SAME(wrong_sum.number, 9);
-    SAME(wrong_sum.counter, 0);
-    SAME(wrong_sum.mask, 0);
-    SAME(wrong_sum.next, 15);
-    frame = muk_read_frame((const uint8_t *)text, length, 15);
-    SAME(frame.what, MUK_FRAME);
-    SAME(frame.number, 0);
-    SAME(frame.counter, 58100);
-    SAME(frame.mask, UINT32_C(0x80000001));
-    SAME(frame.next, 30);
-    end = muk_read_frame((const uint8_t *)text, length, 30);
-    SAME(end.what, MUK_END);
-    SAME(end.next, 30);
-    SAME(time.number, 0);
-    SAME(time.time, 65540);
-    SAME(over.number, 6);
-    SAME(over.time, 0);
+    static const char text[] = "E2F480000001D7\nE2F4800000015\nE2F48000000157\n";
+    const uint8_t *bytes = (const uint8_t *)text;
+    uint64_t length = sizeof text - 1, place = 0;
+    uint16_t counter = ODD16;
+    uint32_t mask = ODD32;
+    SAME(muk_read_frame(bytes, length, &place, &counter, &mask), refusal(MUK_BAD_SUM, 0));
+    SAME(place, 15);
+    SAME(muk_read_frame(bytes, length, &place, &counter, &mask), refusal(MUK_BAD_LINE, 0));
+    SAME(place, 29);
+    SAME(counter, ODD16);
+    SAME(mask, ODD32);
+    SAME(muk_read_frame(bytes, length, &place, &counter, &mask), MUK_FRAME);
+    SAME(place, length);
+    SAME(counter, 58100);
+    SAME(mask, UINT32_C(0x80000001));
+    counter = ODD16;
+    mask = ODD32;
+    SAME(muk_read_frame(bytes, length, &place, &counter, &mask), MUK_END);
+    SAME(place, length);
+    place = HIGH + 29;
+    SAME(muk_read_frame(bytes, length, &place, &counter, &mask), MUK_END);
+    SAME(place, HIGH + 29);
+    SAME(muk_read_frame(NULL, 0, &place, &counter, &mask), MUK_END);
+    SAME(counter, ODD16);
+    SAME(mask, ODD32);
 }
 
 int main(void) {
-    uint64_t store[STORE] = {1, 2, 3, 4};
     layout();
-    table(store);
-    by_value(store);
-    in_place(store);
+    codes();
+    checks();
+    starts();
+    events();
+    times();
     lines();
     return failures > 0;
 }

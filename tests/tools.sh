@@ -62,6 +62,8 @@ expect 2 "'ten' is no number" tools/line frame ten 0
 expect 2 "arguments are required: b" tools/line rule since 1 0 0
 expect 0 "usage: line" tools/line --help
 expect 0 "usage: table" tools/table --help
+expect 0 "usage: tools/footprint" tools/footprint --help
+expect 2 "there is no target 'cortex-m9'" tools/footprint cortex-m9
 expect 2 "no-such cannot be read: No such file or directory" tools/table no-such
 
 # table_says STATUS TEXT LINE..: what tools/table says of these rule lines.

@@ -1,6 +1,6 @@
 //! The second reference: soundness and the one-event rules written out, for any table, store and record, reached or not.
 
-use crate::board::{Answer, Call, Checked, Record, Started};
+use crate::board::{Call, Checked, Kept, Record};
 use crate::lines::time_of;
 use crate::table::{self, Formula, Interval, Refusal, ROW_LIMIT, TIME_LIMIT};
 
@@ -107,41 +107,45 @@ fn step(rows: &[Formula], store: &mut [u64], record: &mut Record, t: u64, mask: 
     truths[rows.len() - 1]
 }
 
-pub fn check(rules: &[u32]) -> Checked {
-    match table::check(rules) {
-        Err(Refusal { number, row }) => Checked { number, row, rows: 0, need: 0 },
-        Ok(rows) => Checked { number: 0, row: 0, rows: rows.len() as u32, need: table::need(&rows) },
-    }
-}
-
-pub fn start(rules: &[u32], store: &mut [u64]) -> Started {
-    match table::ready(rules, store.len()) {
-        Err(Refusal { number, row }) => Started { number, row, record: Record::ZERO },
-        Ok(rows) => {
-            store[..table::need(&rows) as usize].fill(0);
-            Started { number: 0, row: 0, record: Record { rows: rows.len() as u32, ..Record::ZERO } }
-        }
-    }
-}
-
-pub fn call(rules: &[u32], store: &mut [u64], record: &mut Record, call: Call) -> Answer {
-    let rows = match table::ready(rules, store.len()) {
-        Err(refusal) => return Answer::refused(refusal),
+pub fn check(rules: &[u32], checked: &mut Checked) -> u32 {
+    let rows = match table::check(rules) {
+        Err(refusal) => return refusal.code(),
         Ok(rows) => rows,
     };
-    let refused = |number| Answer::refused(Refusal { number, row: 0 });
+    *checked = Checked { rows: rows.len() as u32, need: table::need(&rows) };
+    0
+}
+
+pub fn start(rules: &[u32], kept: &mut Kept) -> u32 {
+    let (store, record) = kept.lent();
+    *record = Record::ZERO;
+    let rows = match table::ready(rules, store.len()) {
+        Err(refusal) => return refusal.code(),
+        Ok(rows) => rows,
+    };
+    store[..table::need(&rows) as usize].fill(0);
+    record.rows = rows.len() as u32;
+    0
+}
+
+pub fn call((rules, call): (&[u32], Call), kept: &mut Kept) -> u32 {
+    let (store, record) = kept.lent();
+    let rows = match table::ready(rules, store.len()) {
+        Err(refusal) => return refusal.code(),
+        Ok(rows) => rows,
+    };
     if !sound(&rows, store, record) {
-        return refused(7);
+        return Refusal::of(7).code();
     }
     let (time, mask) = match call {
         Call::Event { time, mask } => (time, mask),
         Call::Frame { counter, mask } => (time_of(record.time, counter), mask),
     };
     if time > TIME_LIMIT {
-        return refused(6);
+        return Refusal::of(6).code();
     }
     if time < record.time {
-        return refused(5);
+        return Refusal::of(5).code();
     }
-    Answer::judged(step(&rows, store, record, time, mask))
+    step(&rows, store, record, time, mask) as u32
 }

@@ -1,6 +1,7 @@
-//! The archive's functions for C, as include/muktrashi.h declares them, with each call counted.
+//! The library's functions for C, as include/muktrashi.h declares them, with each call counted. Each is a function of what it reads and of what it may
+//! write, and gives the code; the references have the same functions.
 
-use crate::table::{Refusal, ROW_LIMIT};
+use crate::table::ROW_LIMIT;
 use std::sync::atomic::{AtomicU64, Ordering};
 
 #[repr(C)]
@@ -17,75 +18,61 @@ impl Record {
     pub const ZERO: Record = Record { seen: 0, time: 0, rows: 0, truths: [0; ROW_LIMIT], counts: [0; ROW_LIMIT] };
 }
 
-#[repr(C)]
-#[derive(Clone, Copy, PartialEq, Debug)]
-pub struct Answer {
-    pub what: u32,
-    pub number: u32,
-    pub row: u32,
-    pub verdict: u32,
+/// Words behind the lent store that must stay as they are.
+const GUARD: [u64; 2] = [0x5A5A_5A5A_5A5A_5A5A, 0xA5A5_A5A5_A5A5_A5A5];
+
+/// What the monitor writes: the words of the store, with the guard behind them, and the record.
+#[derive(Clone, PartialEq, Debug)]
+pub struct Kept {
+    words: Vec<u64>,
+    pub record: Record,
 }
 
-impl Answer {
-    pub fn refused(refusal: Refusal) -> Answer {
-        Answer { what: 0, number: refusal.number, row: refusal.row, verdict: 0 }
+impl Kept {
+    pub fn new(mut words: Vec<u64>, record: Record) -> Kept {
+        words.extend(GUARD);
+        Kept { words, record }
     }
 
-    pub fn judged(verdict: bool) -> Answer {
-        Answer { what: 1, number: 0, row: 0, verdict: verdict as u32 }
+    pub fn store(&self) -> &[u64] {
+        &self.words[..self.words.len() - GUARD.len()]
+    }
+
+    pub fn lent(&mut self) -> (&mut [u64], &mut Record) {
+        let size = self.store().len();
+        (&mut self.words[..size], &mut self.record)
     }
 }
 
-#[repr(C)]
-#[derive(Clone, Copy, PartialEq, Debug)]
+/// What a table check writes.
+#[derive(Clone, PartialEq, Debug)]
 pub struct Checked {
-    pub number: u32,
-    pub row: u32,
     pub rows: u32,
     pub need: u64,
 }
 
-#[repr(C)]
-#[derive(Clone, Copy, PartialEq, Debug)]
-pub struct Started {
-    pub number: u32,
-    pub row: u32,
-    pub record: Record,
-}
-
-#[repr(C)]
-#[derive(Clone, Copy, PartialEq, Debug)]
-struct Judged {
-    answer: Answer,
-    record: Record,
-}
-
-#[repr(C)]
-#[derive(Clone, Copy, PartialEq, Debug)]
-pub struct Time {
-    pub number: u32,
-    pub time: u64,
-}
-
-#[repr(C)]
-#[derive(Clone, Copy, PartialEq, Debug)]
+/// What reading a line writes.
+#[derive(Clone, PartialEq, Debug)]
 pub struct Line {
-    pub what: u32,
-    pub number: u32,
-    pub counter: u32,
+    pub place: u64,
+    pub counter: u16,
     pub mask: u32,
-    pub next: u64,
+}
+
+/// What is handed to the monitor: an event by its time, or a frame by its counter.
+#[derive(Clone, Copy, PartialEq, Debug)]
+pub enum Call {
+    Event { time: u64, mask: u32 },
+    Frame { counter: u16, mask: u32 },
 }
 
 extern "C" {
-    fn muk_check(table: *const u32, table_len: usize) -> Checked;
-    fn muk_start(table: *const u32, table_len: usize, store: *mut u64, store_len: usize) -> Started;
-    fn muk_event(table: *const u32, table_len: usize, store: *mut u64, store_len: usize, record: Record, time: u64, mask: u32) -> Judged;
-    fn muk_frame(table: *const u32, table_len: usize, store: *mut u64, store_len: usize, record: Record, counter: u16, mask: u32) -> Judged;
-    fn muk_event_in(table: *const u32, table_len: usize, store: *mut u64, store_len: usize, record: *mut Record, time: u64, mask: u32) -> Answer;
-    fn muk_frame_in(table: *const u32, table_len: usize, store: *mut u64, store_len: usize, record: *mut Record, counter: u16, mask: u32) -> Answer;
-    fn muk_frame_time(last: u64, counter: u16) -> Time;
-    fn muk_read_frame(text: *const u8, text_len: usize, place: usize) -> Line;
+    fn muk_check(table: *const u32, table_len: u64, rows: *mut u32, need: *mut u64) -> u32;
+    fn muk_start(table: *const u32, table_len: u64, store: *mut u64, store_len: u64, record: *mut Record) -> u32;
+    fn muk_event(table: *const u32, table_len: u64, store: *mut u64, store_len: u64, record: *mut Record, time: u64, mask: u32) -> u32;
+    fn muk_frame(table: *const u32, table_len: u64, store: *mut u64, store_len: u64, record: *mut Record, counter: u16, mask: u32) -> u32;
+    fn muk_frame_time(last: u64, counter: u16, time: *mut u64) -> u32;
+    fn muk_read_frame(text: *const u8, text_len: u64, place: *mut u64, counter: *mut u16, mask: *mut u32) -> u32;
 }
 
 static CALLS: AtomicU64 = AtomicU64::new(0);
@@ -100,60 +87,47 @@ pub fn calls() -> u64 {
 }
 
 /// A lent slice as C lends it: where it is empty, by a null pointer.
-fn lent<T>(slice: &[T]) -> *const T {
-    if slice.is_empty() {
-        return std::ptr::null();
-    }
-    slice.as_ptr()
+fn lent<T>(slice: &[T]) -> (*const T, u64) {
+    let pointer = if slice.is_empty() { std::ptr::null() } else { slice.as_ptr() };
+    (pointer, slice.len() as u64)
 }
 
-fn lent_to_write<T>(slice: &mut [T]) -> *mut T {
-    if slice.is_empty() {
-        return std::ptr::null_mut();
-    }
-    slice.as_mut_ptr()
+fn lent_to_write(kept: &mut Kept) -> (*mut u64, u64, *mut Record) {
+    let (store, record) = kept.lent();
+    let pointer = if store.is_empty() { std::ptr::null_mut() } else { store.as_mut_ptr() };
+    (pointer, store.len() as u64, record)
 }
 
-pub fn check(table: &[u32]) -> Checked {
+pub fn check(table: &[u32], checked: &mut Checked) -> u32 {
     count();
-    unsafe { muk_check(lent(table), table.len()) }
+    let (table, numbers) = lent(table);
+    unsafe { muk_check(table, numbers, &mut checked.rows, &mut checked.need) }
 }
 
-pub fn start(table: &[u32], store: &mut [u64]) -> Started {
+pub fn start(table: &[u32], kept: &mut Kept) -> u32 {
     count();
-    unsafe { muk_start(lent(table), table.len(), lent_to_write(store), store.len()) }
+    let ((table, numbers), (store, words, record)) = (lent(table), lent_to_write(kept));
+    unsafe { muk_start(table, numbers, store, words, record) }
 }
 
-/// What is handed to the monitor: an event by its time, or a frame by its counter.
-#[derive(Clone, Copy, PartialEq, Debug)]
-pub enum Call {
-    Event { time: u64, mask: u32 },
-    Frame { counter: u16, mask: u32 },
-}
-
-/// One call, with the record handed in and back or changed in its place.
-pub fn call(table: &[u32], store: &mut [u64], record: &mut Record, call: Call, in_place: bool) -> Answer {
+pub fn call((table, call): (&[u32], Call), kept: &mut Kept) -> u32 {
     count();
-    let (rules, size) = (lent(table), table.len());
-    let (words, len) = (lent_to_write(store), store.len());
-    let judged = unsafe {
-        match (call, in_place) {
-            (Call::Event { time, mask }, true) => return muk_event_in(rules, size, words, len, record, time, mask),
-            (Call::Frame { counter, mask }, true) => return muk_frame_in(rules, size, words, len, record, counter, mask),
-            (Call::Event { time, mask }, false) => muk_event(rules, size, words, len, *record, time, mask),
-            (Call::Frame { counter, mask }, false) => muk_frame(rules, size, words, len, *record, counter, mask),
+    let ((table, numbers), (store, words, record)) = (lent(table), lent_to_write(kept));
+    unsafe {
+        match call {
+            Call::Event { time, mask } => muk_event(table, numbers, store, words, record, time, mask),
+            Call::Frame { counter, mask } => muk_frame(table, numbers, store, words, record, counter, mask),
         }
-    };
-    *record = judged.record;
-    judged.answer
+    }
 }
 
-pub fn frame_time(last: u64, counter: u16) -> Time {
+pub fn frame_time((last, counter): (u64, u16), time: &mut u64) -> u32 {
     count();
-    unsafe { muk_frame_time(last, counter) }
+    unsafe { muk_frame_time(last, counter, time) }
 }
 
-pub fn read_frame(text: &[u8], place: usize) -> Line {
+pub fn read_frame(text: &[u8], line: &mut Line) -> u32 {
     count();
-    unsafe { muk_read_frame(lent(text), text.len(), place) }
+    let (text, bytes) = lent(text);
+    unsafe { muk_read_frame(text, bytes, &mut line.place, &mut line.counter, &mut line.mask) }
 }

@@ -1,7 +1,7 @@
 //! Inputs, from a fixed seed: tables, times, masks, sound records that no stream reaches, texts, and damage to each.
 
 use crate::any_record::{stretches, NO_LAST};
-use crate::board::{Call, Record};
+use crate::board::{Call, Checked, Line, Record};
 use crate::table::{self, Formula, Interval, BITS, LONGEST, NO_END, ROW_LIMIT, TIME_LIMIT};
 
 /// A generator of numbers (splitmix64).
@@ -105,6 +105,22 @@ pub fn damage_table(random: &mut Random, table: &mut Vec<u32>) {
 /// Words of any content.
 pub fn words(random: &mut Random, count: u64) -> Vec<u64> {
     (0..count).map(|_| if random.once_in(2) { random.word() } else { random.pick(&[0, 1, u64::MAX]) }).collect()
+}
+
+/// A record of any content, as it may stand before a start.
+pub fn any_record(random: &mut Random) -> Record {
+    let (time, byte, count) = (random.word(), random.word() as u8, random.word() as u32);
+    Record { seen: byte, time, rows: count, truths: [byte; ROW_LIMIT], counts: [count; ROW_LIMIT] }
+}
+
+/// Numbers of any content, as they may stand where a table check writes.
+pub fn any_checked(random: &mut Random) -> Checked {
+    Checked { rows: random.word() as u32, need: random.word() }
+}
+
+/// Numbers of any content, as they may stand where a line is read from a place.
+pub fn any_line(random: &mut Random, place: u64) -> Line {
+    Line { place, counter: random.word() as u16, mask: random.word() as u32 }
 }
 
 /// A call after the time `last`: equal times, times near the limits of the rows, times below and over the limit.

@@ -1,21 +1,26 @@
 //! The board's lines: reading a frame at a place, and the time of a frame (document 01, "Lines from the board").
 
-use crate::board::{Line, Time};
-use crate::table::TIME_LIMIT;
+use crate::board::Line;
+use crate::table::{Refusal, TIME_LIMIT};
 
 const FRAME: usize = 15;
 const TURN: u64 = 65_536;
+
+/// What reading says of itself.
+pub const END: u32 = 0;
+const READ: u32 = 1;
 
 /// "time = last + ((counter - last) modulo 65,536)".
 pub fn time_of(last: u64, counter: u16) -> u64 {
     last + (TURN + counter as u64 - last % TURN) % TURN
 }
 
-pub fn frame_time(last: u64, counter: u16) -> Time {
+pub fn frame_time((last, counter): (u64, u16), time: &mut u64) -> u32 {
     if last > TIME_LIMIT {
-        return Time { number: 6, time: 0 };
+        return Refusal::of(6).code();
     }
-    Time { number: 0, time: time_of(last, counter) }
+    *time = time_of(last, counter);
+    0
 }
 
 /// The bytes of a frame line that is well formed.
@@ -27,22 +32,23 @@ fn frame_bytes(line: &[u8]) -> Option<Vec<u8>> {
     (*feed == b'\n').then_some(bytes)
 }
 
-pub fn read_frame(text: &[u8], place: usize) -> Line {
-    if place >= text.len() {
-        return Line { what: 0, number: 0, counter: 0, mask: 0, next: place as u64 };
+pub fn read_frame(text: &[u8], line: &mut Line) -> u32 {
+    if line.place >= text.len() as u64 {
+        return END;
     }
+    let place = line.place as usize;
     let rest = &text[place..];
-    let after = rest.iter().position(|&byte| byte == b'\n').map_or(text.len(), |feed| place + feed + 1);
-    let refused = |number| Line { what: 2, number, counter: 0, mask: 0, next: after as u64 };
+    line.place = rest.iter().position(|&byte| byte == b'\n').map_or(text.len(), |feed| place + feed + 1) as u64;
     let bytes = match rest.get(..FRAME).and_then(frame_bytes) {
         Some(bytes) => bytes,
-        None => return refused(8),
+        None => return Refusal::of(8).code(),
     };
     let sum = bytes[..6].iter().map(|&byte| byte as u32).sum::<u32>() % 256;
     if sum != bytes[6] as u32 {
-        return refused(9);
+        return Refusal::of(9).code();
     }
-    let counter = u16::from_be_bytes([bytes[0], bytes[1]]) as u32;
-    let mask = u32::from_be_bytes([bytes[2], bytes[3], bytes[4], bytes[5]]);
-    Line { what: 1, number: 0, counter, mask, next: (place + FRAME) as u64 }
+    line.counter = u16::from_be_bytes([bytes[0], bytes[1]]);
+    line.mask = u32::from_be_bytes([bytes[2], bytes[3], bytes[4], bytes[5]]);
+    line.place = (place + FRAME) as u64;
+    READ
 }

@@ -1,18 +1,17 @@
-//! Compares the archive's functions for C with the two references, over a million calls, from a fixed seed. Ends at the first difference, which it
-//! prints with its input, or with the count of calls. Both references read a table by `table` and time a frame by `lines::time_of`.
-//!
-//! `main` is C's: Rust's own start reads the process's memory map, which an emulator may fail to show.
-
-#![no_main]
+//! Compares the library's functions for C with the two references, over a million calls, from a fixed seed: what each call answers, and all that it may
+//! write as it is left. Ends at the first difference, which it prints with its input, or with the count of calls. Both references read a table by `table`
+//! and time a frame by `lines::time_of`. Given the name of a file, it writes some of the calls there; `calls` tells how.
 
 mod any_record;
 mod board;
+mod calls;
 mod inputs;
 mod lines;
 mod meaning;
 mod table;
 
-use board::{Answer, Call, Record};
+use board::{Call, Kept};
+use calls::{Calls, Function, Written};
 use inputs::Random;
 use meaning::History;
 use std::fmt::Debug;
@@ -27,96 +26,68 @@ const TABLES: u64 = 80_000;
 const TEXTS: u64 = 30_000;
 const TIMES: u64 = 60_000;
 
-/// Words after the lent store that must stay as they are.
-const GUARD: [u64; 2] = [0x5A5A_5A5A_5A5A_5A5A, 0xA5A5_A5A5_A5A5_A5A5];
-
-/// Ends the program where the archive's outcome is not the reference's.
-fn same<T: PartialEq + Debug>(function: &str, input: &dyn Debug, archive: &T, reference: &T) {
-    if archive != reference {
-        eprintln!("{function} differs\ninput     {input:?}\narchive   {archive:?}\nreference {reference:?}");
+/// Ends the program where the library's outcome is not the reference's.
+fn same<T: PartialEq + Debug>(function: &dyn Debug, input: &dyn Debug, library: &T, reference: &T) {
+    if library != reference {
+        eprintln!("{function:?} differs\ninput     {input:?}\nlibrary   {library:?}\nreference {reference:?}");
         std::process::exit(1);
     }
 }
 
-/// The input of a call: all that it was lent and given.
-#[derive(Clone, Debug)]
-struct Input {
-    table: Vec<u32>,
-    store: Vec<u64>,
-    record: Record,
-    call: Call,
-    in_place: bool,
+/// One call of the library and of the reference, with what it reads and what it may write, compared; gives the code.
+fn compare<G: Written + Copy + Debug, L: Written + Clone + PartialEq + Debug>(
+    calls: &mut Calls,
+    function: Function,
+    given: G,
+    left: &mut L,
+    library: impl Fn(G, &mut L) -> u32,
+    reference: impl Fn(G, &mut L) -> u32,
+) -> u32 {
+    let (before, mut meant) = (left.clone(), left.clone());
+    let (code, meant_code) = (library(given, left), reference(given, &mut meant));
+    same(&function, &(given, &before), &(code, &*left), &(meant_code, &meant));
+    calls.call(function, &given, &before, meant_code, &meant);
+    code
 }
 
-/// What a call leaves.
-#[derive(PartialEq, Debug)]
-struct Outcome {
-    answer: Answer,
-    record: Record,
-    store: Vec<u64>,
+fn compare_start(calls: &mut Calls, table: &[u32], kept: &mut Kept) {
+    compare(calls, Function::Start, table, kept, board::start, any_record::start);
 }
 
-/// The archive on a store of exactly the input's words; what lies behind them stays.
-fn archive(input: &Input) -> Outcome {
-    let (mut lent, mut record) = (input.store.clone(), input.record);
-    lent.extend(GUARD);
-    let size = input.store.len();
-    let answer = board::call(&input.table, &mut lent[..size], &mut record, input.call, input.in_place);
-    same("a word behind the store", input, &&lent[size..], &&GUARD[..]);
-    lent.truncate(size);
-    Outcome { answer, record, store: lent }
-}
-
-/// The reference for any record.
-fn by_the_rules(input: &Input) -> Outcome {
-    let (mut store, mut record) = (input.store.clone(), input.record);
-    let answer = any_record::call(&input.table, &mut store, &mut record, input.call);
-    Outcome { answer, record, store }
-}
-
-/// A call on any record, compared; gives what it leaves.
-fn compare_call(input: &Input) -> Outcome {
-    let outcome = archive(input);
-    same("a call, by the one-event rules,", input, &outcome, &by_the_rules(input));
-    outcome
-}
-
-fn compare_start(table: &[u32], store: &mut Vec<u64>) -> board::Started {
-    let input = (table, store.clone());
-    let mut expected = store.clone();
-    let started = board::start(table, store);
-    let reference = any_record::start(table, &mut expected);
-    same("muk_start", &input, &(started, &*store), &(reference, &expected));
-    started
+fn compare_call(calls: &mut Calls, table: &[u32], kept: &mut Kept, call: Call) -> u32 {
+    let function = match call {
+        Call::Event { .. } => Function::Event,
+        Call::Frame { .. } => Function::Frame,
+    };
+    compare(calls, function, (table, call), kept, board::call, any_record::call)
 }
 
 /// Streams from a start: both references, after the start and after each call.
-fn streams(random: &mut Random) {
+fn streams(random: &mut Random, calls: &mut Calls) {
     for _ in 0..STREAMS {
         let table = inputs::table(random);
         let rows = table::check(&table).expect("a table that passes");
         let need = table::need(&rows) as usize;
         let size = need as u64 + random.below(4);
-        let mut store = inputs::words(random, size);
-        let mut record = compare_start(&table, &mut store).record;
+        let mut kept = Kept::new(inputs::words(random, size), inputs::any_record(random));
+        compare_start(calls, &table, &mut kept);
         let mut history = History::start(rows);
         let mut last = inputs::base(random);
         for _ in 0..STREAM_CALLS {
             let call = inputs::call(random, last);
-            let input = Input { table: table.clone(), store, record, call, in_place: random.once_in(2) };
-            let outcome = compare_call(&input);
-            let answer = history.call(call);
-            let (meant, words) = history.record_and_words();
-            let left = (outcome.answer, outcome.record, &outcome.store[..need], &outcome.store[need..]);
-            same("a call, by the meaning,", &input, &left, &(answer, meant, &words[..], &input.store[need..]));
-            (store, record) = (outcome.store, outcome.record);
+            let before = kept.clone();
+            let code = compare_call(calls, &table, &mut kept, call);
+            let meant_code = history.call(call);
+            let (record, words) = history.record_and_words();
+            let left = (code, kept.record, &kept.store()[..need]);
+            same(&"by the meaning, a call", &(&table, &before, call), &left, &(meant_code, record, &words[..]));
             last = if record.seen == 1 { record.time } else { last };
         }
     }
 }
 
 /// Records that are sound but perhaps not reached, and damaged records, stores and tables.
-fn unreached(random: &mut Random) {
+fn unreached(random: &mut Random, calls: &mut Calls) {
     for _ in 0..UNREACHED {
         let mut table = inputs::table(random);
         let rows = table::check(&table).expect("a table that passes");
@@ -130,16 +101,16 @@ fn unreached(random: &mut Random) {
             5 => table = inputs::table(random),
             _ => {}
         }
+        let mut kept = Kept::new(store, record);
         for _ in 0..UNREACHED_CALLS {
-            let call = inputs::call(random, last.max(record.time));
-            let input = Input { table: table.clone(), store, record, call, in_place: random.once_in(2) };
-            Outcome { store, record, .. } = compare_call(&input);
+            let call = inputs::call(random, last.max(kept.record.time));
+            compare_call(calls, &table, &mut kept, call);
         }
     }
 }
 
 /// Checks and starts of tables, good and damaged, on stores that are long enough and too short.
-fn tables(random: &mut Random) {
+fn tables(random: &mut Random, calls: &mut Calls) {
     for _ in 0..TABLES {
         let mut table = inputs::table(random);
         for _ in 0..random.below(3) {
@@ -147,49 +118,45 @@ fn tables(random: &mut Random) {
                 inputs::damage_table(random, &mut table);
             }
         }
-        let checked = any_record::check(&table);
-        same("muk_check", &table, &board::check(&table), &checked);
-        let size = checked.need.min(2_000) + random.below(3);
-        let mut store = inputs::words(random, size.saturating_sub(1));
-        compare_start(&table, &mut store);
+        let mut checked = inputs::any_checked(random);
+        let code = compare(calls, Function::Check, &table[..], &mut checked, board::check, any_record::check);
+        let need = if code == 0 { checked.need.min(2_000) } else { 0 };
+        let size = need + random.below(3);
+        let words = inputs::words(random, size.saturating_sub(1));
+        compare_start(calls, &table, &mut Kept::new(words, inputs::any_record(random)));
     }
 }
 
 /// Texts, good and damaged, read from places in them and past their end.
-fn texts(random: &mut Random) {
+fn texts(random: &mut Random, calls: &mut Calls) {
     for _ in 0..TEXTS {
         let text = inputs::text(random);
-        let mut place = 0;
-        loop {
-            let line = board::read_frame(&text, place);
-            same("muk_read_frame", &(&text, place), &line, &lines::read_frame(&text, place));
-            if line.what == 0 {
-                break;
-            }
-            place = line.next as usize;
-        }
-        for place in [random.below(text.len() as u64 + 3) as usize, random.word() as usize, usize::MAX] {
-            same("muk_read_frame", &(&text, place), &board::read_frame(&text, place), &lines::read_frame(&text, place));
+        let read =
+            |calls: &mut Calls, line: &mut board::Line| compare(calls, Function::ReadFrame, &text[..], line, board::read_frame, lines::read_frame);
+        let mut line = inputs::any_line(random, 0);
+        while read(calls, &mut line) != lines::END {}
+        for place in [random.below(text.len() as u64 + 3), random.word(), u64::MAX] {
+            read(calls, &mut inputs::any_line(random, place));
         }
     }
 }
 
 /// Times of frames, after any last time.
-fn times(random: &mut Random) {
+fn times(random: &mut Random, calls: &mut Calls) {
     for _ in 0..TIMES {
         let (base, any) = (inputs::base(random), random.word());
         let last = random.pick(&[base, base, any, TIME_LIMIT - 1, TIME_LIMIT, TIME_LIMIT + 1, u64::MAX]);
         let counter = random.pick(&[0, 1, u16::MAX, last as u16, (last as u16).wrapping_sub(1), any as u16]);
-        same("muk_frame_time", &(last, counter), &board::frame_time(last, counter), &lines::frame_time(last, counter));
+        compare(calls, Function::FrameTime, (last, counter), &mut random.word(), board::frame_time, lines::frame_time);
     }
 }
 
-#[no_mangle]
-pub extern "C" fn main() -> i32 {
+fn main() {
+    let mut calls = Calls::new(std::env::args().nth(1));
     let mut random = Random::new(SEED);
     for part in [streams, unreached, tables, texts, times] {
-        part(&mut random);
+        part(&mut random, &mut calls);
     }
     println!("{} calls as the references have them", board::calls());
-    0
+    println!("{} calls written", calls.end());
 }

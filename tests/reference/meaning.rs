@@ -1,7 +1,7 @@
 //! The first reference: a monitor straight from the meaning, for records reached from a start. It keeps every accepted event and no spans;
 //! verdicts, records and the words of the store are computed from the whole history each time.
 
-use crate::board::{Answer, Call, Record};
+use crate::board::{Call, Record};
 use crate::lines::time_of;
 use crate::table::{Formula, Interval, Refusal, TIME_LIMIT};
 
@@ -25,23 +25,23 @@ impl History {
         self.events.last().map_or(0, |event| event.time)
     }
 
-    pub fn call(&mut self, call: Call) -> Answer {
+    pub fn call(&mut self, call: Call) -> u32 {
         let (time, mask) = match call {
             Call::Event { time, mask } => (time, mask),
             Call::Frame { counter, mask } => (time_of(self.time(), counter), mask),
         };
         if time > TIME_LIMIT {
-            return Answer::refused(Refusal { number: 6, row: 0 });
+            return Refusal::of(6).code();
         }
         if time < self.time() {
-            return Answer::refused(Refusal { number: 5, row: 0 });
+            return Refusal::of(5).code();
         }
         self.events.push(Event { time, truths: Vec::new() });
         for row in 0..self.rows.len() {
             let truth = self.holds(row, mask);
             self.events.last_mut().unwrap().truths.push(truth);
         }
-        Answer::judged(*self.events.last().unwrap().truths.last().unwrap())
+        *self.events.last().unwrap().truths.last().unwrap() as u32
     }
 
     /// Whether a row holds at the newest event, at which all lower rows are known.

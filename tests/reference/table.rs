@@ -11,8 +11,20 @@ const NUMBERS: usize = 5;
 /// A refusal by its number, and the row that it gives or 0.
 #[derive(Clone, Copy, PartialEq, Debug)]
 pub struct Refusal {
-    pub number: u32,
-    pub row: u32,
+    number: u32,
+    row: u32,
+}
+
+impl Refusal {
+    /// One that gives no row.
+    pub fn of(number: u32) -> Refusal {
+        Refusal { number, row: 0 }
+    }
+
+    /// As C is told of it.
+    pub fn code(self) -> u32 {
+        self.number << 16 | self.row
+    }
 }
 
 /// [a,b]; no b where there is no end.
@@ -91,7 +103,7 @@ fn row(numbers: &[u32], index: usize) -> Result<Formula, u32> {
 pub fn check(table: &[u32]) -> Result<Vec<Formula>, Refusal> {
     let count = table.len() / NUMBERS;
     if table.len() % NUMBERS != 0 || count == 0 || count > ROW_LIMIT {
-        return Err(Refusal { number: 1, row: 0 });
+        return Err(Refusal::of(1));
     }
     let rows = table.chunks(NUMBERS).enumerate();
     rows.map(|(index, numbers)| row(numbers, index).map_err(|number| Refusal { number, row: index as u32 })).collect()
@@ -106,7 +118,7 @@ pub fn need(rows: &[Formula]) -> u64 {
 pub fn ready(table: &[u32], store: usize) -> Result<Vec<Formula>, Refusal> {
     let rows = check(table)?;
     if (store as u64) < need(&rows) {
-        return Err(Refusal { number: 4, row: 0 });
+        return Err(Refusal::of(4));
     }
     Ok(rows)
 }

@@ -1,0 +1,204 @@
+/* Makes the calls of the file `calls`, which tests/reference/ writes, and holds what each answers and leaves to what the references have. Ends at the
+ * first difference, or with the count of calls. tests/reference/calls.rs tells how the file is written. */
+#include <stdio.h>
+#include <stdlib.h>
+
+#include "muktrashi.h"
+
+#define LONGEST_ROW 330
+/* The word behind the lent store, which must stay as it is. */
+#define GUARD UINT64_C(0x5A5A5A5A5A5A5A5A)
+
+enum { END, CHECK, START, EVENT, FRAME, FRAME_TIME, READ_FRAME };
+
+static FILE *file;
+static unsigned long calls;
+
+static uint32_t table[LONGEST_ROW];
+static uint64_t table_len;
+static uint64_t store[LONGEST_ROW + 1];
+static uint64_t store_len;
+static uint8_t text[LONGEST_ROW];
+static uint64_t text_len;
+static muk_record record;
+
+/* A row as it is lent: where it is empty, by a null pointer. */
+#define LENT(row) (row##_len != 0 ? row : NULL), row##_len
+
+static void stop(const char *what) {
+    printf("replay.c: call %lu: %s\n", calls, what);
+    exit(1);
+}
+
+static uint64_t number(void) {
+    uint64_t value = 0;
+    int byte, shift;
+    for (shift = 0; shift < 64; shift += 7) {
+        byte = getc(file);
+        if (byte == EOF)
+            stop("the file ends too early");
+        value |= (uint64_t)(byte & 127) << shift;
+        if (byte < 128)
+            return value;
+    }
+    stop("the file has a number over 64 bits");
+    return 0;
+}
+
+/* The next number of the file is what a call answers or leaves. */
+static void same(const char *what, uint64_t found) {
+    uint64_t wanted = number();
+    if (found != wanted) {
+        printf("replay.c: %s is %llu, not %llu\n", what, (unsigned long long)found, (unsigned long long)wanted);
+        stop("the library and the references differ");
+    }
+}
+
+static uint64_t length(void) {
+    uint64_t read = number();
+    if (read > LONGEST_ROW)
+        stop("a row is too long");
+    return read;
+}
+
+static void read_table(void) {
+    uint64_t i;
+    table_len = length();
+    for (i = 0; i < table_len; i++)
+        table[i] = (uint32_t)number();
+}
+
+static void read_text(void) {
+    uint64_t i;
+    text_len = length();
+    for (i = 0; i < text_len; i++)
+        text[i] = (uint8_t)number();
+}
+
+static void read_kept(void) {
+    uint64_t i;
+    store_len = length();
+    for (i = 0; i < store_len; i++)
+        store[i] = number();
+    store[store_len] = GUARD;
+    record.seen = (uint8_t)number();
+    record.time = number();
+    record.rows = (uint32_t)number();
+    for (i = 0; i < MUK_ROWS; i++)
+        record.truths[i] = (uint8_t)number();
+    for (i = 0; i < MUK_ROWS; i++)
+        record.counts[i] = (uint32_t)number();
+}
+
+static void same_kept(void) {
+    uint64_t i;
+    same("the store's length", store_len);
+    for (i = 0; i < store_len; i++)
+        same("a word of the store", store[i]);
+    if (store[store_len] != GUARD)
+        stop("the word behind the store has changed");
+    same("seen", record.seen);
+    same("time", record.time);
+    same("rows", record.rows);
+    for (i = 0; i < MUK_ROWS; i++)
+        same("a truth", record.truths[i]);
+    for (i = 0; i < MUK_ROWS; i++)
+        same("a count", record.counts[i]);
+}
+
+static void check(void) {
+    uint32_t rows, code;
+    uint64_t need;
+    read_table();
+    rows = (uint32_t)number();
+    need = number();
+    code = muk_check(LENT(table), &rows, &need);
+    same("the code", code);
+    same("the row count", rows);
+    same("the need", need);
+}
+
+static void start(void) {
+    read_table();
+    read_kept();
+    same("the code", muk_start(LENT(table), LENT(store), &record));
+    same_kept();
+}
+
+static void event(void) {
+    uint64_t time;
+    uint32_t mask;
+    read_table();
+    time = number();
+    mask = (uint32_t)number();
+    read_kept();
+    same("the code", muk_event(LENT(table), LENT(store), &record, time, mask));
+    same_kept();
+}
+
+static void frame(void) {
+    uint16_t counter;
+    uint32_t mask;
+    read_table();
+    counter = (uint16_t)number();
+    mask = (uint32_t)number();
+    read_kept();
+    same("the code", muk_frame(LENT(table), LENT(store), &record, counter, mask));
+    same_kept();
+}
+
+static void frame_time(void) {
+    uint64_t last = number();
+    uint16_t counter = (uint16_t)number();
+    uint64_t time = number();
+    same("the code", muk_frame_time(last, counter, &time));
+    same("the time", time);
+}
+
+static void read_frame(void) {
+    uint64_t place;
+    uint16_t counter;
+    uint32_t mask;
+    read_text();
+    place = number();
+    counter = (uint16_t)number();
+    mask = (uint32_t)number();
+    same("the code", muk_read_frame(LENT(text), &place, &counter, &mask));
+    same("the place", place);
+    same("the counter", counter);
+    same("the mask", mask);
+}
+
+int main(void) {
+    file = fopen("calls", "rb");
+    if (file == NULL)
+        stop("the file 'calls' cannot be read");
+    for (;; calls++) {
+        switch (number()) {
+        case CHECK:
+            check();
+            break;
+        case START:
+            start();
+            break;
+        case EVENT:
+            event();
+            break;
+        case FRAME:
+            frame();
+            break;
+        case FRAME_TIME:
+            frame_time();
+            break;
+        case READ_FRAME:
+            read_frame();
+            break;
+        case END:
+            same("the count of calls", calls);
+            printf("%lu calls as the references have them\n", calls);
+            return 0;
+        default:
+            stop("there is no such function");
+        }
+    }
+}

@@ -1,0 +1,161 @@
+//! A file of calls with what the references have for them, which tests/processors/replay.c makes again on other processors. For each call: its function,
+//! what it reads, what it may write as it was, the code, and what it may write as it is left. A row is its length and its numbers. A number is in groups
+//! of seven bits, lowest first, with 128 added to all but the last. 0 for the function ends the file; the count of calls follows.
+
+use crate::board::{Call, Checked, Kept, Line};
+use std::fs::File;
+use std::io::{BufWriter, Write};
+
+/// Every so many calls one is written, if it fits.
+const EVERY: u64 = 37;
+/// The longest row that fits: a small board has 16 kB of memory.
+const LONGEST_ROW: usize = 330;
+
+#[derive(Clone, Copy, Debug)]
+pub enum Function {
+    Check = 1,
+    Start,
+    Event,
+    Frame,
+    FrameTime,
+    ReadFrame,
+}
+
+/// The bytes of one call.
+pub struct Entry {
+    bytes: Vec<u8>,
+    fits: bool,
+}
+
+impl Entry {
+    fn number(&mut self, number: impl Into<u64>) {
+        let mut rest = number.into();
+        while rest >= 128 {
+            self.bytes.push(rest as u8 | 128);
+            rest >>= 7;
+        }
+        self.bytes.push(rest as u8);
+    }
+
+    fn numbers<T: Copy + Into<u64>>(&mut self, numbers: &[T]) {
+        numbers.iter().for_each(|&number| self.number(number));
+    }
+}
+
+/// What is written as numbers.
+pub trait Written {
+    fn to(&self, entry: &mut Entry);
+}
+
+impl<T: Copy + Into<u64>> Written for [T] {
+    fn to(&self, entry: &mut Entry) {
+        entry.fits &= self.len() <= LONGEST_ROW;
+        entry.number(self.len() as u64);
+        entry.numbers(self);
+    }
+}
+
+impl<T: Written + ?Sized> Written for &T {
+    fn to(&self, entry: &mut Entry) {
+        (*self).to(entry);
+    }
+}
+
+impl<A: Written, B: Written> Written for (A, B) {
+    fn to(&self, entry: &mut Entry) {
+        self.0.to(entry);
+        self.1.to(entry);
+    }
+}
+
+impl Written for u64 {
+    fn to(&self, entry: &mut Entry) {
+        entry.number(*self);
+    }
+}
+
+impl Written for u16 {
+    fn to(&self, entry: &mut Entry) {
+        entry.number(*self);
+    }
+}
+
+impl Written for Kept {
+    fn to(&self, entry: &mut Entry) {
+        self.store().to(entry);
+        entry.number(self.record.seen);
+        entry.number(self.record.time);
+        entry.number(self.record.rows);
+        entry.numbers(&self.record.truths);
+        entry.numbers(&self.record.counts);
+    }
+}
+
+impl Written for Checked {
+    fn to(&self, entry: &mut Entry) {
+        entry.number(self.rows);
+        entry.number(self.need);
+    }
+}
+
+impl Written for Line {
+    fn to(&self, entry: &mut Entry) {
+        entry.number(self.place);
+        entry.number(self.counter);
+        entry.number(self.mask);
+    }
+}
+
+impl Written for Call {
+    fn to(&self, entry: &mut Entry) {
+        match *self {
+            Call::Event { time, mask } => entry.numbers(&[time, mask as u64]),
+            Call::Frame { counter, mask } => entry.numbers(&[counter as u32, mask]),
+        }
+    }
+}
+
+/// The file, if one is asked for, and the counts of the calls made and written.
+pub struct Calls {
+    file: Option<BufWriter<File>>,
+    made: u64,
+    written: u64,
+}
+
+impl Calls {
+    pub fn new(path: Option<String>) -> Calls {
+        let file = path.map(|path| BufWriter::new(File::create(path).expect("the file of calls can be written")));
+        Calls { file, made: 0, written: 0 }
+    }
+
+    pub fn call(&mut self, function: Function, given: &impl Written, before: &impl Written, code: u32, left: &impl Written) {
+        self.made += 1;
+        if self.made % EVERY != 0 {
+            return;
+        }
+        let mut entry = Entry { bytes: Vec::new(), fits: true };
+        entry.number(function as u32);
+        given.to(&mut entry);
+        before.to(&mut entry);
+        entry.number(code);
+        left.to(&mut entry);
+        if entry.fits {
+            self.written += 1;
+            self.write(&entry);
+        }
+    }
+
+    /// Ends the file; gives the count of calls in it.
+    pub fn end(&mut self) -> u64 {
+        let mut entry = Entry { bytes: Vec::new(), fits: true };
+        entry.numbers(&[0, self.written]);
+        self.write(&entry);
+        self.written
+    }
+
+    fn write(&mut self, entry: &Entry) {
+        if let Some(file) = &mut self.file {
+            file.write_all(&entry.bytes).expect("the file of calls can be written");
+        }
+    }
+}
