@@ -160,7 +160,7 @@ for target in program x86_64 aarch64 cortex-m0 cortex-m3 cortex-m4 cortex-m4f wa
 done
 said=$("$work/repo/tools/build" 2>&1 >/dev/null)
 [ $? -eq 2 ] && [ "$said" = "$help" ] || fail "without a target it says '$said'"
-refuses 2 "build: there is no target 'cortex-m7'; the targets are program, x86_64 aarch64 cortex-m0" cortex-m7
+refuses 1 "build: there is no target 'cortex-m7'; the targets are program, x86_64 aarch64 cortex-m0" cortex-m7
 refuses 2 "build: there is no option '--all'" --all
 refuses 2 "build: one target at a time" cortex-m0 cortex-m3
 rm "$work/kit/bin/rt"
