@@ -1,4 +1,4 @@
--- The one table of kinds (document 01, "The rule table"). A new kind is a line here and in src/kinds.rt.
+-- The one table of kinds (document 01, "The rule table"). A new kind is a line here and in src/kinds.rt, and a case of `Plain` where it is no stretch.
 use mathlib.Core.Bool.{Bool, true, false, cond}
 use mathlib.Core.List.{List, [], _∷_}
 use Prim.Native.Nat.{ℕ}

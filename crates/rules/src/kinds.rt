@@ -1,4 +1,4 @@
-// The one table of kinds (document 01, "The rule table"), private to the crate: the lines of specs/Kinds as code. A new kind is a line in both.
+// The one table of kinds (document 01), private to the crate: specs/Kinds as code. A new kind is a line in both, and a case of `Plain` where it is no stretch.
 
 ghost use mathlib.Core.Path.{_≡_};
 ghost use Rattle.rules.specs.Kinds.{kindAt, known, kindLine, useOf, fits};
