@@ -31,7 +31,7 @@ use Rattle.spans.proofs.SoundTold.{SoundStretch, stretch-told}
 use Rattle.spans.proofs.StretchKept.{sound-packed, sound-ready}
 use Rattle.monitor.specs.declared.record.Record.{Record}
 use Rattle.times.specs.Times.{timeLimit}
-use Rattle.monitor.specs.Record.{wasSeen, truthAt, heldAt, stretchAt, spansFound}
+use Rattle.monitor.specs.Record.{wasSeen, truthAt, clockOf, eventTime, heldAt, stretchAt, spansFound}
 use Rattle.monitor.specs.Soundness.{soundEntry?, soundLimits?, soundRow?, sound?}
 use Rattle.monitor.specs.Ready.{readyOf, refusalIn}
 use Rattle.monitor.specs.Event.{Moment, spansBy, spansAfter}
@@ -46,27 +46,27 @@ pub record Accepted (table store : List ℕ) (found : Record) (time : ℕ) : Typ
   pub ready : Ready table (length store) (rowsOf table)
   pub sound : sound? table store found ≡ true
   pub early : time ≤ timeLimit
-  pub risen : found .time ≤ time
+  pub risen : clockOf found ≤ time
 
 unless-none : (test : Bool) (refusal : Refusal) → unless test refusal ≡ none → test ≡ true
 unless-none true refusal h = refl
 unless-none false refusal h = let z : _≡_ {A = ℕ} 0 1 = cc in absurd (omega arith)
 
 pub accepted : (setup : Setup) (store : List ℕ) (found : Record) (call : Call) → refusalOf setup store found call ≡ none
-    → Accepted (setup .table) store found (timeOf (found .time) call)
+    → Accepted (setup .table) store found (timeOf (clockOf found) call)
 unfolding refusalOf
 accepted setup store found call h =
     let sound : Option Refused = unless (sound? (setup .table) store found) Unsound in
-    let early : Option Refused = unless (leb (timeOf (found .time) call) timeLimit) Late in
-    let risen : Option Refused = unless (leb (found .time) (timeOf (found .time) call)) Earlier in
+    let early : Option Refused = unless (leb (timeOf (clockOf found) call) timeLimit) Late in
+    let risen : Option Refused = unless (leb (clockOf found) (timeOf (clockOf found) call)) Earlier in
     let first = or-none (refusalIn (readyOf (setup .table) (length store))) (sound orElse early orElse risen) h in
     let second = or-none sound (early orElse risen) (first .1) in
     let third = or-none early risen (second .1) in
     record {
       ready = ready-none (setup .table) (length store) (first .0);
       sound = unless-none (sound? (setup .table) store found) Unsound (second .0);
-      early = leb-true _ _ (unless-none (leb (timeOf (found .time) call) timeLimit) Late (third .0));
-      risen = leb-true _ _ (unless-none (leb (found .time) (timeOf (found .time) call)) Earlier (third .1));
+      early = leb-true _ _ (unless-none (leb (timeOf (clockOf found) call) timeLimit) Late (third .0));
+      risen = leb-true _ _ (unless-none (leb (clockOf found) (timeOf (clockOf found) call)) Earlier (third .1));
     }
 
 module _ (table store : List ℕ) (found : Record) (time : ℕ) (met : Accepted table store found time) where
@@ -80,35 +80,35 @@ module _ (table store : List ℕ) (found : Record) (time : ℕ) (met : Accepted 
     pub row-inside : offset table row + width numbers ≤ length store
     row-inside = omega (arith, stretch-before table row (rowsOf table) lower, met .ready .room)
 
-    storable : Storable (found .time +End endOf (numbers .b))
+    storable : Storable (eventTime found +End endOf (numbers .b))
     storable =
-        reach-storable (found .time) (numbers .b) (omega (arith, met .early, met .risen)) (limit-fits (numbers .a) (numbers .b) range)
+        reach-storable (eventTime found) (numbers .b) (omega (arith, met .early, met .risen)) (limit-fits (numbers .a) (numbers .b) range)
 
-    limits-sound : soundLimits? (stretchAt table store row) (heldAt found row) (found .time) (found .time) numbers ≡ true
+    limits-sound : soundLimits? (stretchAt table store row) (heldAt found row) (clockOf found) (eventTime found) numbers ≡ true
     unfolding soundRow?
     limits-sound =
         and-right (soundEntry? (wasSeen found) (getD (found .truths) row 0) (getD (found .counts) row 0) numbers)
-        (soundLimits? (stretchAt table store row) (heldAt found row) (found .time) (found .time) numbers)
+        (soundLimits? (stretchAt table store row) (heldAt found row) (clockOf found) (eventTime found) numbers)
         (every-at (rowsOf table) row (soundRow? table store found) lower (sound-parts table store found (met .sound) .rows))
 
     stretch-sound :
-        SoundStretch (stretchAt table store row) (heldAt found row) (found .time) (found .time + numbers .a) (found .time +End endOf (numbers .b))
+        SoundStretch (stretchAt table store row) (heldAt found row) (clockOf found) (eventTime found + numbers .a) (eventTime found +End endOf (numbers .b))
         (lengthOf (numbers .a) (endOf (numbers .b)))
     stretch-sound =
-        stretch-told (stretchAt table store row) (heldAt found row) (found .time) (found .time + numbers .a) (found .time +End endOf (numbers .b))
+        stretch-told (stretchAt table store row) (heldAt found row) (clockOf found) (eventTime found + numbers .a) (eventTime found +End endOf (numbers .b))
         (lengthOf (numbers .a) (endOf (numbers .b))) storable
         .sound (subst T (sym limits-sound) tt)
 
     pub row-laid : Packed (stretchAt table store row) (heldAt found row)
     row-laid =
-        sound-packed (found .time) time (found .time) (numbers .a) (found .time + numbers .a) (endOf (numbers .b)) (stretchAt table store row)
+        sound-packed (clockOf found) time (eventTime found) (numbers .a) (eventTime found + numbers .a) (endOf (numbers .b)) (stretchAt table store row)
         (heldAt found row) storable stretch-sound
 
-    room-for : (keep feed : Bool) → 2 * figure (numbers .a) (endOf (numbers .b)) ≤ length (stretchAt table store row)
-        → 2 * length (update keep feed time (reachedFrom time (numbers .a) (endOf (numbers .b))) (spansFound table store found row))
+    room-for : (keep feed : Bool) → spanWords * figure (numbers .a) (endOf (numbers .b)) ≤ length (stretchAt table store row)
+        → spanWords * length (update keep feed time (reachedFrom time (numbers .a) (endOf (numbers .b))) (spansFound table store found row))
         ≤ length (stretchAt table store row)
     room-for keep feed size =
-        sound-ready (found .time) time (found .time) (numbers .a) (found .time + numbers .a) (endOf (numbers .b)) (stretchAt table store row)
+        sound-ready (clockOf found) time (eventTime found) (numbers .a) (eventTime found + numbers .a) (endOf (numbers .b)) (stretchAt table store row)
         (heldAt found row) storable stretch-sound keep feed (range-order (numbers .a) (numbers .b) range) (met .risen) (met .risen) size
 
 -- The spans of a row after the event have room, whatever the truths of the lower rows.
@@ -118,13 +118,13 @@ module _ (m : Moment) (met : Accepted (m .table) (m .store) (m .found) (m .time)
   N = numbersAt (m .table) row
 
   enough-by : (rule : Rule) → length (stretchAt (m .table) (m .store) row) ≡ spanWords * spansSaid rule N
-      → 2 * length (spansBy (m .time) truths (spansFound (m .table) (m .store) (m .found) row) N rule) ≤ spanWords * spansSaid rule N
+      → spanWords * length (spansBy (m .time) truths (spansFound (m .table) (m .store) (m .found) row) N rule) ≤ spanWords * spansSaid rule N
   enough-by (plain says) size = omega arith
   enough-by (stretch columns) size =
       rw (← size)
       (room-for (m .table) (m .store) (m .found) (m .time) met row lower (keptBy true (truthAt truths) N (columns .keep))
       (fedBy not (truthAt truths) N columns) (omega arith))
 
-  pub row-enough : 2 * length (spansAfter m row truths) ≤ width N
+  pub row-enough : spanWords * length (spansAfter m row truths) ≤ width N
   unfolding spansAfter
   row-enough = enough-by (ruleOf N) (length-stretch (m .table) (m .store) row (row-inside (m .table) (m .store) (m .found) (m .time) met row lower))

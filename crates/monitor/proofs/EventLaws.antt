@@ -8,6 +8,7 @@ use lib.ListN.{length, take, drop, length-append, length-drop, length-take}
 use lib.Seq.{take-at, drop-at}
 use Rattle.rules.specs.Rows.{numbersAt}
 use Rattle.rules.specs.Stretches.{width, offset}
+use Rattle.spans.specs.Layout.{spanWords}
 use Rattle.monitor.specs.declared.record.Record.{Record}
 use Rattle.monitor.specs.Record.{stretchAt}
 use Rattle.monitor.specs.Event.{Moment, spansAfter, truthOf, spansNow, wordsDone, storeAfter}
@@ -39,7 +40,7 @@ module _ (table store other : List ℕ) (found : Record) (time mask : ℕ) where
 
 -- The spans of each row below n have room in its stretch.
 abbrev pub Room : Moment → ℕ → Type 0
-Room m n = (r : ℕ) → r < n → 2 * length (spansNow m r) ≤ width (numbersAt (m .table) r)
+Room m n = (r : ℕ) → r < n → spanWords * length (spansNow m r) ≤ width (numbersAt (m .table) r)
 
 module _ (m : Moment) where
   -- What is done fills the stretches of the rows done.

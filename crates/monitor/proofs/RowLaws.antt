@@ -2,12 +2,12 @@
 use mathlib.Core.Bool.{Bool, true, false, not}
 use mathlib.Core.List.{List, []}
 use mathlib.Core.Path.{_≡_, refl, sym, ap, _∙_}
-use Prim.Native.Nat.{ℕ, _+_, _*_, _-_, _^_, _≤_, _<_}
+use Prim.Native.Nat.{ℕ, _+_, _-_, _^_, _≤_, _<_}
 use native.Mathlib.Nat.{add-zero}
 use native.Mathlib.Omega.{arith}
 use lib.ListN.{length, take-append-drop}
 use Rattle.meaning.specs.Interval.{endOf}
-use Rattle.meaning.specs.Spans.{Span, reachedFrom, update}
+use Rattle.meaning.specs.Spans.{Span, reachedFrom}
 use Rattle.rules.specs.Kinds.{Rule, plain, stretch, hasStretch, ownsStretch, columnsOf}
 use Rattle.rules.specs.Rows.{ruleOf, keptBy, feeder, taken}
 use Rattle.rules.specs.Stretches.{spansOf, spansSaid, width}
@@ -17,12 +17,12 @@ use Rattle.rules.proofs.KindsLaws.{owned-rule}
 use Rattle.meaning.proofs.Truths.{no-truth}
 use Rattle.spans.specs.declared.stretch.Held.{Held}
 use Rattle.spans.specs.declared.stretch.Updated.{Updated}
-use Rattle.spans.specs.Layout.{wordsOf, packed, spansHeld, Packed}
+use Rattle.spans.specs.Layout.{wordsOf, packed}
 use Rattle.spans.specs.Stretch.{covered}
 use Rattle.monitor.specs.declared.event.Arrival.{Arrival}
 use Rattle.monitor.specs.Record.{truthAt}
 use Rattle.monitor.specs.Event.{spansBy, truthBy}
-use Rattle.monitor.specs.Core.{stretchIn, UpdatedIn, spansAfterIn, RowReady, RowJudged}
+use Rattle.monitor.specs.Core.{updateIn, UpdateReady, UpdatedIn, spansAfterIn, RowReady, RowJudged}
 
 -- A row without a stretch holds no spans, and its stretch has no words.
 no-spans : (time : ℕ) (truths : List ℕ) (S : List Span) (n : Numbers) (rule : Rule) → hasStretch rule ≡ false → spansBy time truths S n rule ≡ []
@@ -59,41 +59,46 @@ module _
       rule = owned-rule (ruleOf n) (names .owned) ∙ ap stretch (sym (names .columns-are))
 
       abbrev updated : List Span
-      updated =
-          update keep feed (e .time) (reachedFrom (e .time) (n .a) (endOf (n .b))) (spansHeld (stretchIn from (from + words) store) held)
+      updated = updateIn from (from + words) store held keep feed (e .time) (reachedFrom (e .time) (n .a) (endOf (n .b)))
 
       stretch-spans : updated ≡ spansAfterIn store from n held e truths
       stretch-spans = rw (size, rule, names .kept, names .fed)
 
-      pub stretch-laid : Packed (stretchIn from (from + words) store) held
-      stretch-laid = rw size (ready .laid)
-
-      pub stretch-room : 2 * length updated ≤ from + words - from
-      stretch-room =
+      pub stretch-ready : UpdateReady from (from + words) store held keep feed (e .time) (reachedFrom (e .time) (n .a) (endOf (n .b)))
+      stretch-ready =
           let all : from + words - from ≡ words = omega arith in
-          rw (stretch-spans, all, size) (ready .enough)
+          record {
+            order = omega arith;
+            inside = ends-within;
+            laid = rw size (ready .laid);
+            room = rw (stretch-spans, all, size) (ready .enough);
+          }
 
       truth-stretch : (found : List ℕ) (S : List Span) → truthBy e found truths S n (ruleOf n) ≡ taken not (columns .inside) (covered (e .time) S)
       truth-stretch found S = rw rule
 
-      module _ {after : List ℕ} {judged : Updated} (done : UpdatedIn from (from + words) store after judged (e .time) updated) where
-        count-is : judged .held .count ≡ length (spansAfterIn store from n held e truths)
-        count-is = done .counted ∙ ap length stretch-spans
+      module _
+          {after : List ℕ}
+          {judged : Updated}
+          (done : UpdatedIn from (from + words) store held keep feed (e .time) (reachedFrom (e .time) (n .a) (endOf (n .b))) judged after)
+        where
+          count-is : judged .held .count ≡ length (spansAfterIn store from n held e truths)
+          count-is = done .counted ∙ ap length stretch-spans
 
-        pub stretch-count : judged .held .count < 2 ^ 32
-        stretch-count = omega (arith, count-is, ready .enough, ready .few)
+          pub stretch-count : judged .held .count < 2 ^ 32
+          stretch-count = omega (arith, count-is, ready .enough, ready .few)
 
-        pub stretch-judged : {found : List ℕ} {truth : Bool}
-            → truth ≡ taken not (columns .inside) (judged .covered)
-            → RowJudged store from n held e found truths after (record { truth = truth; count = judged .held .count; end = from + words })
-        stretch-judged {found} told =
-            let all : from + words - from ≡ words = omega arith in
-            record {
-              truth = rw (told, done .told, stretch-spans) (sym (truth-stretch found (spansAfterIn store from n held e truths)));
-              count = count-is;
-              end = rw size;
-              written = done .written ∙ rw (stretch-spans, all, size);
-            }
+          pub stretch-judged : {found : List ℕ} {truth : Bool}
+              → truth ≡ taken not (columns .inside) (judged .covered)
+              → RowJudged store from n held e found truths after (record { truth = truth; count = judged .held .count; end = from + words })
+          stretch-judged {found} told =
+              let all : from + words - from ≡ words = omega arith in
+              record {
+                truth = rw (told, done .told, stretch-spans) (sym (truth-stretch found (spansAfterIn store from n held e truths)));
+                count = count-is;
+                end = rw size;
+                written = done .written ∙ rw (stretch-spans, all, size);
+              }
 
     module _ (bare : ownsStretch (n .kind) ≡ false) where
       none : spansAfterIn store from n held e truths ≡ []

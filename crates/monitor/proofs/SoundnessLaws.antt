@@ -2,7 +2,7 @@
 use mathlib.Core.Bool.{Bool, true, false, _&&_, _||_}
 use mathlib.Core.List.{List, [], _∷_}
 use mathlib.Core.Logic.{⊎-elim}
-use mathlib.Core.Path.{_≡_, refl, sym}
+use mathlib.Core.Path.{_≡_, refl, sym, _∙_}
 use Prim.Native.Nat.{ℕ, zero, suc, _+_, _-_, _≤_, _<_}
 use native.Mathlib.Nat.{eq-or-lt-of-le, le-of-suc-le-suc}
 use native.Mathlib.Numerals.{add-one}
@@ -22,8 +22,8 @@ use Rattle.spans.specs.Layout.{spansFrom, zeros?}
 use Rattle.spans.specs.StretchSound.{soundFrom?, soundEndless?, soundSpans?, soundStretch?}
 use Rattle.monitor.specs.declared.record.Record.{Record}
 use Rattle.times.specs.Times.{timeLimit}
-use Rattle.monitor.specs.Record.{isTrue, wasSeen, heldAt, stretchAt}
-use Rattle.monitor.specs.Core.{recordOf}
+use Rattle.monitor.specs.Record.{isTrue, wasSeen, clockOf, eventTime, heldAt, stretchAt}
+use Rattle.monitor.specs.Core.{heldOf, recordOf}
 use Rattle.monitor.specs.Soundness.{every, truthByte?, soundEntry?, soundLimits?, soundRow?, zeroPast?, soundTime?, sound?}
 use Rattle.monitor.proofs.ReadyLaws.{Ready}
 
@@ -76,16 +76,17 @@ part-told table store row {numbers} {from} {words} read place size =
     rw (e, size, read, place)
 
 pub row-told :
-    (table store : List ℕ) (found : Record) (row : ℕ) {numbers : Numbers} {from words : ℕ} {answer : Bool}
+    (table store : List ℕ) (found : Record) (row : ℕ) {numbers : Numbers} {from words last : ℕ} {answer : Bool}
     → numbers ≡ numbersAt table row
     → from ≡ offset table row
     → words ≡ width numbers
+    → eventTime found ≡ last
     → answer
     ≡ (soundEntry? (wasSeen found) (getD (found .truths) row 0) (getD (found .counts) row 0) numbers
-    && soundLimits? (take (from + words - from) (drop from store)) (heldAt found row) (found .time) (found .time) numbers)
+    && soundLimits? (take (from + words - from) (drop from store)) (heldAt found row) (clockOf found) last numbers)
     → answer ≡ soundRow? table store found row
 unfolding soundRow?
-row-told table store found row read place size told = rw (told, part-told table store row read place size, read)
+row-told table store found row read place size dated told = told ∙ rw (part-told table store row read place size, read, dated)
 
 -- A sound entry's count is within the figure.
 pub entry-within : (seen : Bool) (truth count : ℕ) (numbers : Numbers) → soundEntry? seen truth count numbers ≡ true → count ≤ spansOf numbers
@@ -100,12 +101,12 @@ unfolding soundSpans? soundFrom? soundEndless?
 no-spans-sound now latestFirst long (upTo last) = refl
 no-spans-sound now latestFirst long noEnd = refl
 
-pub bare-sound : (words : List ℕ) (count time : ℕ) (numbers : Numbers) → length words ≡ 0 → count ≡ 0
-    → soundLimits? words (record { count = count }) time time numbers ≡ true
+pub bare-sound : (words : List ℕ) (count clock last : ℕ) (numbers : Numbers) → length words ≡ 0 → count ≡ 0
+    → soundLimits? words (heldOf count) clock last numbers ≡ true
 unfolding soundStretch? spansFrom zeros?
-bare-sound [] count time numbers size none =
-    rw (none, no-spans-sound time (time + numbers .a) (lengthOf (numbers .a) (endOf (numbers .b))) (time +End endOf (numbers .b)))
-bare-sound (word ∷ words) count time numbers size none = absurd (omega arith)
+bare-sound [] count clock last numbers size none =
+    rw (none, no-spans-sound clock (last + numbers .a) (lengthOf (numbers .a) (endOf (numbers .b))) (last +End endOf (numbers .b)))
+bare-sound (word ∷ words) count clock last numbers size none = absurd (omega arith)
 
 -- Where a row's stretch ends, and that it does so within the store.
 pub offset-next : (table : List ℕ) (row : ℕ) {numbers : Numbers} {from words : ℕ} → numbers ≡ numbersAt table row → from ≡ offset table row
@@ -125,10 +126,10 @@ stretch-fits table size rows row ready lower read place said =
     rw (place, said, read) (omega (arith, ready .room))
 
 -- The rows by a count that is the table's.
-pub rows-counted : (table store : List ℕ) (seen time count rows : ℕ) (truths counts : List ℕ) {answer : Bool} → count ≡ rows → rows ≡ rowsOf table
-    → answer ≡ every rows (soundRow? table store (recordOf seen time rows truths counts))
-    → every (rowsOf table) (soundRow? table store (recordOf seen time count truths counts)) ≡ answer
-rows-counted table store seen time count rows truths counts same counted told = rw (told, ← counted, same)
+pub rows-counted : (table store : List ℕ) (seen clock count rows : ℕ) (truths counts : List ℕ) {answer : Bool} → count ≡ rows → rows ≡ rowsOf table
+    → answer ≡ every rows (soundRow? table store (recordOf seen clock rows truths counts))
+    → every (rowsOf table) (soundRow? table store (recordOf seen clock count truths counts)) ≡ answer
+rows-counted table store seen clock count rows truths counts same counted told = rw (told, ← counted, same)
 
 -- What stands past the rows of the table: nothing is asked of the rows themselves, and each later one decides by its truth, then by its count.
 module _ (rows : ℕ) (truths counts : List ℕ) where
@@ -149,10 +150,10 @@ module _ (rows : ℕ) (truths counts : List ℕ) where
     unfolding zeroPast?
     past-zero unset none = rw (le-ltb _ _ past, eq-eqb _ _ unset, eq-eqb _ _ none)
 
--- What a sound record gives: its row count is the table's, its time is within the limit, and every row is sound.
+-- What a sound record gives: its row count is the table's, its clock is within the limit, and every row is sound.
 pub record SoundParts (table store : List ℕ) (found : Record) : Type 0 where
   pub counted : found .rows ≡ rowsOf table
-  pub early : found .time ≤ timeLimit
+  pub early : clockOf found ≤ timeLimit
   pub rows : every (rowsOf table) (soundRow? table store found) ≡ true
 
 pub time-within : (seen time : ℕ) → soundTime? seen time ≡ true → time ≤ timeLimit
@@ -162,14 +163,14 @@ pub sound-parts : (table store : List ℕ) (found : Record) → sound? table sto
 unfolding sound?
 sound-parts table store found h =
     let count : Bool = eqb (found .rows) (rowsOf table) in
-    let timely : Bool = soundTime? (found .seen) (found .time) in
+    let timely : Bool = soundTime? (found .seen) (clockOf found) in
     let rows : Bool = every (rowsOf table) (soundRow? table store found) in
     let past : Bool = every rowLimit (zeroPast? (rowsOf table) (found .truths) (found .counts)) in
     let three = and-left (count && timely && rows) past h in
     let two = and-left (count && timely) rows three in
     record {
       counted = eqb-true _ _ (and-left count timely two);
-      early = time-within (found .seen) (found .time) (and-right count timely two);
+      early = time-within (found .seen) (clockOf found) (and-right count timely two);
       rows = and-right (count && timely) rows three;
     }
 
@@ -180,11 +181,11 @@ module _ (table store : List ℕ) (found : Record) where
   unsound-count differ = rw (ne-eqb _ _ differ)
 
   module _ (count : found .rows ≡ rowsOf table) where
-    pub unsound-time : soundTime? (found .seen) (found .time) ≡ false → sound? table store found ≡ false
+    pub unsound-time : soundTime? (found .seen) (clockOf found) ≡ false → sound? table store found ≡ false
     unfolding sound?
     unsound-time late = rw (eq-eqb _ _ count, late)
 
-    module _ (timely : soundTime? (found .seen) (found .time) ≡ true) where
+    module _ (timely : soundTime? (found .seen) (clockOf found) ≡ true) where
       pub unsound-row : every (rowsOf table) (soundRow? table store found) ≡ false → sound? table store found ≡ false
       unfolding sound?
       unsound-row rows = rw (eq-eqb _ _ count, timely, rows)

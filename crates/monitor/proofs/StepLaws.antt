@@ -20,7 +20,7 @@ use Rattle.monitor.specs.declared.event.Arrival.{Arrival}
 use Rattle.monitor.specs.declared.answer.Answer.{Answer}
 use Rattle.monitor.specs.declared.answer.Answer.the-variants as Answer
 use Rattle.times.specs.Times.{timeLimit}
-use Rattle.monitor.specs.Record.{truthAt}
+use Rattle.monitor.specs.Record.{truthAt, clockOf, eventTime}
 use Rattle.monitor.specs.Soundness.{sound?}
 use Rattle.monitor.specs.Ready.{readyOf, refusalIn}
 use Rattle.monitor.specs.Step.{Setup, setupOf, Call, event, frame, timeOf, unless, refusalOf, momentOf, verdict, refusal, outcomeBy, stepOf, said}
@@ -71,27 +71,38 @@ fit-gives table store found rows need h =
     }
 
 -- Then 6, then 5, then none.
-module _ (setup : Setup) (store : List ℕ) (found : Record) (call : Call) (ready : refusalIn (readyOf (setup .table) (length store)) ≡ none) (sound : sound? (setup .table) store found ≡ true) where
-  pub late : timeLimit < timeOf (found .time) call → refusalOf setup store found call ≡ some (refused Late)
-  unfolding refusalOf
-  late over = rw (ready, sound, lt-leb _ _ over)
-
-  module _ (early : timeOf (found .time) call ≤ timeLimit) where
-    pub earlier : timeOf (found .time) call < found .time → refusalOf setup store found call ≡ some (refused Earlier)
+module _
+    (setup : Setup)
+    (store : List ℕ)
+    (found : Record)
+    (call : Call)
+    (ready : refusalIn (readyOf (setup .table) (length store)) ≡ none)
+    (sound : sound? (setup .table) store found ≡ true)
+  where
+    pub late : timeLimit < timeOf (clockOf found) call → refusalOf setup store found call ≡ some (refused Late)
     unfolding refusalOf
-    earlier fallen = rw (ready, sound, le-leb _ _ early, lt-leb _ _ fallen)
+    late over = rw (ready, sound, lt-leb _ _ over)
 
-    pub unrefused : found .time ≤ timeOf (found .time) call → refusalOf setup store found call ≡ none
-    unfolding refusalOf
-    unrefused risen = rw (ready, sound, le-leb _ _ early, le-leb _ _ risen)
+    module _ (early : timeOf (clockOf found) call ≤ timeLimit) where
+      pub earlier : {clock : ℕ} → clock ≡ clockOf found → timeOf (clockOf found) call < clock → refusalOf setup store found call ≡ some (refused Earlier)
+      unfolding refusalOf
+      earlier present fallen =
+          let below : timeOf (clockOf found) call < clockOf found = omega arith in
+          rw (ready, sound, le-leb _ _ early, lt-leb _ _ below)
 
--- A frame is the event at its time; where the last time is over the limit the record is not sound, and the event at any time is refused alike.
+      pub unrefused : {clock : ℕ} → clock ≡ clockOf found → clock ≤ timeOf (clockOf found) call → refusalOf setup store found call ≡ none
+      unfolding refusalOf
+      unrefused present risen =
+          let above : clockOf found ≤ timeOf (clockOf found) call = omega arith in
+          rw (ready, sound, le-leb _ _ early, le-leb _ _ above)
+
+-- A frame is the event at its time; where the clock is over the limit the record is not sound, and the event at any time is refused alike.
 frame-is-event : (setup : Setup) (store : List ℕ) (found : Record) (counter mask : ℕ)
-    → stepOf setup store found (frame counter mask) ≡ stepOf setup store found (event (frameTime (found .time) counter) mask)
+    → stepOf setup store found (frame counter mask) ≡ stepOf setup store found (event (frameTime (clockOf found) counter) mask)
 unfolding stepOf refusalOf
 frame-is-event setup store found counter mask = refl
 
-over-unsound : (table store : List ℕ) (found : Record) → timeLimit < found .time → sound? table store found ≡ false
+over-unsound : (table store : List ℕ) (found : Record) → timeLimit < clockOf found → sound? table store found ≡ false
 over-unsound table store found over = go (sound? table store found) refl
   where
     go : (answer : Bool) → sound? table store found ≡ answer → answer ≡ false
@@ -105,12 +116,12 @@ refused-alike setup store found m other (some earlier) fault = refl
 
 pub frame-at : (setup : Setup) (store : List ℕ) (found : Record) (counter mask : ℕ)
     → stepOf setup store found (frame counter mask)
-    ≡ stepOf setup store found (event (cond (leb (found .time) timeLimit) (frameTime (found .time) counter) 0) mask)
+    ≡ stepOf setup store found (event (cond (leb (clockOf found) timeLimit) (frameTime (clockOf found) counter) 0) mask)
 unfolding stepOf refusalOf
-frame-at setup store found counter mask = go (leb (found .time) timeLimit) refl
+frame-at setup store found counter mask = go (leb (clockOf found) timeLimit) refl
   where
-    go : (timely : Bool) → leb (found .time) timeLimit ≡ timely
-        → stepOf setup store found (frame counter mask) ≡ stepOf setup store found (event (cond timely (frameTime (found .time) counter) 0) mask)
+    go : (timely : Bool) → leb (clockOf found) timeLimit ≡ timely
+        → stepOf setup store found (frame counter mask) ≡ stepOf setup store found (event (cond timely (frameTime (clockOf found) counter) 0) mask)
     go true h = frame-is-event setup store found counter mask
     go false h =
         rw (over-unsound (setup .table) store found (leb-false _ _ h))
@@ -137,12 +148,12 @@ not-both same = zero-not-one cc
 
 module _ (setup : Setup) (store : List ℕ) (found : Record) (time mask : ℕ) where
   abbrev arrived : Arrival
-  arrived = record { time = time; mask = mask; seen = found .seen; last = found .time }
+  arrived = record { time = time; mask = mask; seen = found .seen; last = eventTime found }
 
   module _ {truths counts after : List ℕ} where
     given-by : (o : Option Refused) (answer : Answer)
         → LeftIn (outcomeBy setup store found (momentOf setup store found (event time mask)) o) answer truths counts after
-        → record { reply = said answer; left = recordLeft answer arrived (found .rows) truths counts; store = after }
+        → record { reply = said answer; left = recordLeft answer arrived (clockOf found) (found .rows) truths counts; store = after }
         ≡ outcomeBy setup store found (momentOf setup store found (event time mask)) o
     unfolding recordAfter
     given-by none (Answer.Verdict holds) left = rw (left .replied, left .truths-are, left .counts-are, left .store-is)
@@ -151,7 +162,7 @@ module _ (setup : Setup) (store : List ℕ) (found : Record) (time mask : ℕ) w
     given-by (some fault) (Answer.Refused other) left = rw (left .replied, left .truths-are, left .counts-are, left .store-is)
 
     pub step-given : (answer : Answer) → LeftIn (stepOf setup store found (event time mask)) answer truths counts after
-        → record { reply = said answer; left = recordLeft answer arrived (found .rows) truths counts; store = after }
+        → record { reply = said answer; left = recordLeft answer arrived (clockOf found) (found .rows) truths counts; store = after }
         ≡ stepOf setup store found (event time mask)
     unfolding stepOf
     step-given answer left = given-by (refusalOf setup store found (event time mask)) answer left

@@ -1,10 +1,11 @@
 -- What the private functions of src/event, src/soundness and src/step ask and leave. No public contract cites this file.
 use mathlib.Core.Bool.{Bool, true, cond}
 use mathlib.Core.List.{List, _++_}
+use mathlib.Core.Option.{none}
 use mathlib.Core.Path.{_≡_}
 use Prim.Native.Nat.{ℕ, _+_, _*_, _-_, _^_, _≤_, _<_}
 use lib.ListN.{length, take, drop}
-use Rattle.meaning.specs.Spans.{Span}
+use Rattle.meaning.specs.Spans.{Span, update}
 use Rattle.rules.specs.Limits.{rowLimit}
 use Rattle.rules.specs.Rows.{ruleOf}
 use Rattle.rules.specs.Stretches.{spansOf, width}
@@ -14,7 +15,7 @@ use Rattle.rules.specs.declared.numbers.Numbers.{Numbers}
 use Rattle.refusals.specs.declared.refusal.Refusal.the-variants as Refusal
 use Rattle.spans.specs.declared.stretch.Held.{Held}
 use Rattle.spans.specs.declared.stretch.Updated.{Updated}
-use Rattle.spans.specs.Layout.{packed, spansHeld, Packed}
+use Rattle.spans.specs.Layout.{spanWords, packed, spansHeld, Packed}
 use Rattle.spans.specs.Stretch.{covered}
 use Rattle.monitor.specs.declared.record.Record.{Record}
 use Rattle.monitor.specs.declared.answer.Answer.{Answer}
@@ -26,7 +27,7 @@ use Rattle.monitor.specs.Record.{byteOf}
 use Rattle.monitor.specs.Soundness.{sound?}
 use Rattle.monitor.specs.Ready.{readyOf}
 use Rattle.monitor.specs.Event.{Moment, spansBy, truthBy, truthsAfter, countsAfter, storeAfter}
-use Rattle.monitor.specs.Step.{Outcome, said}
+use Rattle.monitor.specs.Step.{setupOf, event, refusalOf, Outcome, stepOf, said}
 
 -- 7, "record not sound", after refusals 1 to 4.
 abbrev pub withSound : Bool → CheckReply → CheckReply
@@ -36,12 +37,30 @@ withSound sound (refusedBy fault) = refusedBy fault
 unfoldable pub fitOf : List ℕ → List ℕ → Record → CheckReply
 fitOf table store found = withSound (sound? table store found) (readyOf table (length store))
 
--- A record, and an event, by their parts.
+-- What is held of a stretch, a record, and an event, by their parts.
+abbrev pub heldOf : ℕ → Held
+heldOf count = record { count = count }
+
 abbrev pub recordOf : (seen time rows : ℕ) (truths counts : List ℕ) → Record
 recordOf seen time rows truths counts = record { seen = seen; time = time; rows = rows; truths = truths; counts = counts }
 
 abbrev pub moment : (table store : List ℕ) → Record → (time mask : ℕ) → Moment
 moment table store found time mask = record { table = table; store = store; found = found; time = time; mask = mask }
+
+-- The record that an event met, which is lent in parts: whether one was seen, and when, beside the event; the row count and the two arrays.
+abbrev pub recordMet : Arrival → (rows : ℕ) (truths counts : List ℕ) → Record
+recordMet e rows truths counts = recordOf (e .seen) (e .last) rows truths counts
+
+-- The event at it as a moment, its outcome, and that nothing refuses it.
+abbrev pub momentMet : (table store : List ℕ) → Arrival → (rows : ℕ) (truths counts : List ℕ) → Moment
+momentMet table store e rows truths counts = moment table store (recordMet e rows truths counts) (e .time) (e .mask)
+
+abbrev pub outcomeMet : (table store : List ℕ) → Arrival → (rows : ℕ) (truths counts : List ℕ) → Outcome
+outcomeMet table store e rows truths counts = stepOf (setupOf table) store (recordMet e rows truths counts) (event (e .time) (e .mask))
+
+abbrev pub Unrefused : (table store : List ℕ) → Arrival → (rows : ℕ) (truths counts : List ℕ) → Type 0
+Unrefused table store e rows truths counts =
+    refusalOf (setupOf table) store (recordMet e rows truths counts) (event (e .time) (e .mask)) ≡ none
 
 -- "each since row owns its own stretch in the middle of the store": the words of a stretch, and the store with other words in their place.
 abbrev pub stretchIn : (from end : ℕ) → List ℕ → List ℕ
@@ -50,12 +69,23 @@ stretchIn from end store = take (end - from) (drop from store)
 abbrev pub withStretch : (from end : ℕ) → List ℕ → List ℕ → List ℕ
 withStretch from end store words = take from store ++ (words ++ drop end store)
 
--- After an update of a stretch of a store: its words are those of S and no other word changed; the answer tells how many spans S has and whether the
--- time lies in one.
-pub record UpdatedIn (from end : ℕ) (store after : List ℕ) (updated : Updated) (time : ℕ) (S : List Span) : Type 0 where
-  pub written : after ≡ withStretch from end store (packed (end - from) S)
-  pub counted : updated .held .count ≡ length S
-  pub told : updated .covered ≡ covered time S
+-- The spans of a stretch of a store after an update.
+abbrev pub updateIn : (from end : ℕ) (store : List ℕ) → Held → (keep feed : Bool) (time : ℕ) → Span → List Span
+updateIn from end store held keep feed time span = update keep feed time span (spansHeld (stretchIn from end store) held)
+
+-- A stretch can be updated: it lies within the store, its spans are laid out there, and those after the update have room.
+pub record UpdateReady (from end : ℕ) (store : List ℕ) (held : Held) (keep feed : Bool) (time : ℕ) (span : Span) : Type 0 where
+  pub order : from ≤ end
+  pub inside : end ≤ length store
+  pub laid : Packed (stretchIn from end store) held
+  pub room : spanWords * length (updateIn from end store held keep feed time span) ≤ end - from
+
+-- It was updated: its words are those of its spans then and no other word changed; the answer tells how many they are and whether the time lies in one.
+pub record UpdatedIn (from end : ℕ) (store : List ℕ) (held : Held) (keep feed : Bool) (time : ℕ) (span : Span) (updated : Updated) (after : List ℕ)
+    : Type 0 where
+  pub written : after ≡ withStretch from end store (packed (end - from) (updateIn from end store held keep feed time span))
+  pub counted : updated .held .count ≡ length (updateIn from end store held keep feed time span)
+  pub told : updated .covered ≡ covered time (updateIn from end store held keep feed time span)
 
 -- The arrays and the store after the rows below n.
 pub record AfterRows (m : Moment) (n : ℕ) (truths counts store : List ℕ) : Type 0 where
@@ -75,11 +105,12 @@ pub record RowReady (store : List ℕ) (from : ℕ) (n : Numbers) (held : Held) 
   pub early : e .time ≤ timeLimit
   pub inside : from + width n ≤ length store
   pub laid : Packed (stretchIn from (from + width n) store) held
-  pub enough : 2 * length (spansAfterIn store from n held e truths) ≤ width n
+  pub enough : spanWords * length (spansAfterIn store from n held e truths) ≤ width n
   pub few : spansOf n < 2 ^ 32
 
 -- The row was judged: its truth, its spans, where its stretch ends, and the store with its words written there.
-pub record RowJudged (store : List ℕ) (from : ℕ) (n : Numbers) (held : Held) (e : Arrival) (found truths after : List ℕ) (judged : Judgement) : Type 0 where
+pub record RowJudged (store : List ℕ) (from : ℕ) (n : Numbers) (held : Held) (e : Arrival) (found truths after : List ℕ) (judged : Judgement)
+    : Type 0 where
   pub truth : judged .truth ≡ truthBy e found truths (spansAfterIn store from n held e truths) n (ruleOf n)
   pub count : judged .count ≡ length (spansAfterIn store from n held e truths)
   pub end : judged .end ≡ from + width n
@@ -93,6 +124,6 @@ pub record LeftIn (o : Outcome) (answer : Answer) (truths counts store : List �
   pub store-is : store ≡ o .store
 
 -- The record that is given beside an answer.
-abbrev pub recordLeft : Answer → Arrival → (rows : ℕ) (truths counts : List ℕ) → Record
-recordLeft (Answer.Verdict holds) e rows truths counts = recordOf (byteOf true) (e .time) rows truths counts
-recordLeft (Answer.Refused fault) e rows truths counts = recordOf (e .seen) (e .last) rows truths counts
+abbrev pub recordLeft : Answer → Arrival → (clock rows : ℕ) (truths counts : List ℕ) → Record
+recordLeft (Answer.Verdict holds) e clock rows truths counts = recordOf (byteOf true) (e .time) rows truths counts
+recordLeft (Answer.Refused fault) e clock rows truths counts = recordOf (e .seen) clock rows truths counts

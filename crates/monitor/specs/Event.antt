@@ -41,16 +41,19 @@ unfoldable pub spansAfter : Moment → ℕ → List ℕ → List Span
 spansAfter m row truths =
     spansBy (m .time) truths (spansFound (m .table) (m .store) (m .found) row) (numbersAt (m .table) row) (ruleOf (numbersAt (m .table) row))
 
--- The meaning of a row by its kind, from the truths found and those of the lower rows at this event. "kind 5 uses the truth and time found (false if
--- no event was seen)"; "The row is true at t exactly when t lies in a span", or in none, by the kind's column.
+-- "kind 5 uses the truth and time found (false if no event was seen)".
+abbrev pub previousHeld : Arrival → (found : List ℕ) → Numbers → Bool
+previousHeld e found row = isTrue (e .seen) && truthAt found (row .x) && within? (row .a) (endOf (row .b)) (e .last) (e .time)
+
+-- The meaning of a row by its kind, from the truths found and those of the lower rows at this event. "The row is true at t exactly when t lies in a
+-- span", or in none, by the kind's column.
 abbrev pub truthBy : Arrival → (found truths : List ℕ) → List Span → Numbers → Rule → Bool
 truthBy e found truths after row (plain Plain.Truth) = true
 truthBy e found truths after row (plain Plain.Bit) = bitSet? (row .x) (e .mask)
 truthBy e found truths after row (plain Plain.Negation) = not (truthAt truths (row .x))
 truthBy e found truths after row (plain Plain.Both) = truthAt truths (row .x) && truthAt truths (row .y)
 truthBy e found truths after row (plain Plain.Either) = truthAt truths (row .x) || truthAt truths (row .y)
-truthBy e found truths after row (plain Plain.Previous) =
-    isTrue (e .seen) && truthAt found (row .x) && within? (row .a) (endOf (row .b)) (e .last) (e .time)
+truthBy e found truths after row (plain Plain.Previous) = previousHeld e found row
 truthBy e found truths after row (stretch columns) = taken not (columns .inside) (covered (e .time) after)
 
 unfoldable pub truthOf : Moment → ℕ → List ℕ → Bool

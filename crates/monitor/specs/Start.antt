@@ -2,6 +2,7 @@
 -- every word of the need."
 use mathlib.Core.List.{List, _++_}
 use mathlib.Core.Option.{Option, none, some}
+use mathlib.Core.Path.{_≡_}
 use Prim.Native.Nat.{ℕ}
 use lib.ListN.{length, drop, replicate}
 use Rattle.refusals.specs.Refusals.{Refused, refused}
@@ -13,24 +14,34 @@ use Rattle.monitor.specs.declared.answer.Started.{Started}
 use Rattle.monitor.specs.Record.{nothingSeen}
 use Rattle.monitor.specs.Ready.{readyOf}
 
--- What a start gives: its refusal, if any, the record, and the store at the end.
+-- What a start gives: its refusal, if any, the words of the need, 0 where it is refused, the record, and the store at the end.
 pub record Beginning : Type 0 where
   pub refusal : Option Refused
+  pub need : ℕ
   pub given : Record
   pub store : List ℕ
 
 abbrev pub begin : List ℕ → CheckReply → Beginning
 begin store (passed rows need) =
-    record { refusal = none; given = nothingSeen rows; store = replicate need 0 ++ drop need store }
-begin store (refusedBy fault) = record { refusal = some fault; given = nothingSeen 0; store = store }
+    record { refusal = none; need = need; given = nothingSeen rows; store = replicate need 0 ++ drop need store }
+begin store (refusedBy fault) = record { refusal = some fault; need = 0; given = nothingSeen 0; store = store }
 
 unfoldable pub startOf : List ℕ → List ℕ → Beginning
 startOf table store = begin store (readyOf table (length store))
 
 -- What an answer says, with the store at exit.
 abbrev pub startRefusal : StartAnswer → Option Refused
-startRefusal StartAnswer.Good = none
+startRefusal (StartAnswer.Good need) = none
 startRefusal (StartAnswer.Refused refusal) = some (refused refusal)
 
+abbrev pub startNeed : StartAnswer → ℕ
+startNeed (StartAnswer.Good need) = need
+startNeed (StartAnswer.Refused refusal) = 0
+
 abbrev pub saidStart : Started → List ℕ → Beginning
-saidStart started store = record { refusal = startRefusal (started .answer); given = started .record; store = store }
+saidStart started store =
+    record { refusal = startRefusal (started .answer); need = startNeed (started .answer); given = started .record; store = store }
+
+-- What `start` promises: its answer, the record and every word of the store at exit say this.
+abbrev pub StartGives : (table store : List ℕ) → Started → (after : List ℕ) → Type 0
+StartGives table store started after = saidStart started after ≡ startOf table store

@@ -2,6 +2,7 @@
 use mathlib.Core.Bool.{Bool, true, false, cond}
 use mathlib.Core.List.{List}
 use mathlib.Core.Option.{Option, none, some}
+use mathlib.Core.Path.{_≡_}
 use Prim.Native.Nat.{ℕ, _-_}
 use lib.Dec.{leb}
 use lib.ListN.{length, getD}
@@ -101,6 +102,10 @@ said (Answer.Refused fault) = refusal (refused fault)
 abbrev pub saidStep : Judged → List ℕ → Outcome
 saidStep judged store = record { reply = said (judged .answer); left = judged .record; store = store }
 
+-- What `event` and `frame` promise of the call that each makes: the answer, the record and every word of the store at exit say this.
+abbrev pub StepGives : Setup → (store : List ℕ) → Record → Call → Judged → (after : List ℕ) → Type 0
+StepGives setup store found call judged after = saidStep judged after ≡ stepOf setup store found call
+
 -- "Asked for alone, with a last time over 281,474,976,710,655, the time is refused 6."
 pub data TimeReply : Type 0 where
   at : ℕ → TimeReply
@@ -112,3 +117,7 @@ frameTimeOf last counter = cond (leb last timeLimit) (at (frameTime last counter
 abbrev pub saidTime : Timed → TimeReply
 saidTime (Timed.At time) = at time
 saidTime (Timed.Refused fault) = notAt (refused fault)
+
+-- What `frame_time` promises.
+abbrev pub TimeGives : (last counter : ℕ) → Timed → Type 0
+TimeGives last counter timed = saidTime timed ≡ frameTimeOf last counter

@@ -15,9 +15,9 @@ pub struct Judged {
     pub record: Record,
 }
 
-// The answer to a start: good, or a refusal 1 to 4.
+// The answer to a start: good, with the words of the need, or a refusal 1 to 4.
 pub enum StartAnswer {
-    Good,
+    Good { need: u64 },
     Refused(Refusal),
 }
 

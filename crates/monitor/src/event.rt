@@ -20,25 +20,22 @@ use times::interval::within;
 use times::time::wide;
 ghost use mathlib.Core.Bool.{true, false, not, _&&_, _||_};
 ghost use mathlib.Core.List.{List};
-ghost use mathlib.Core.Option.{none};
 ghost use mathlib.Core.Path.{_≡_};
-ghost use Prim.Native.Nat.{_≤_, _<_, _*_, _-_, _/_, _%_, _^_};
+ghost use Prim.Native.Nat.{_≤_, _<_, _/_, _%_, _^_};
 ghost use lib.Dec.{eqb};
-ghost use lib.ListN.{length};
 ghost use Rattle.meaning.specs.Interval.{endOf};
-ghost use Rattle.meaning.specs.Computed.{within?};
-ghost use Rattle.meaning.specs.Spans.{Span, _to_, reachedFrom, update};
+ghost use Rattle.meaning.specs.Spans.{Span, _to_, reachedFrom};
 ghost use Rattle.rules.specs.Limits.{rowLimit};
 ghost use Rattle.rules.specs.Kinds.{ownsStretch};
 ghost use Rattle.rules.specs.Rows.{rowsOf, ruleOf, keptBy, feeder, taken};
-ghost use Rattle.spans.specs.Layout.{endAt, spansHeld, Packed};
+ghost use Rattle.spans.specs.Layout.{endAt};
 ghost use Rattle.times.specs.Times.{timeLimit};
-ghost use Rattle.monitor.specs.Record.{isTrue, truthAt};
-ghost use Rattle.monitor.specs.Event.{truthBy};
-ghost use Rattle.monitor.specs.Step.{setupOf, refusalOf, event};
-ghost use Rattle.monitor.specs.Core.{recordOf, moment, stretchIn, UpdatedIn, AfterRows, RowReady, RowJudged};
+ghost use Rattle.monitor.specs.Record.{truthAt};
+ghost use Rattle.monitor.specs.Event.{previousHeld, truthBy};
+ghost use Rattle.monitor.specs.Core.{heldOf, Unrefused, momentMet, UpdateReady, UpdatedIn, AfterRows, RowReady, RowJudged};
 
-// An event, and what the record tells of the one before it: whether it was seen, and its time. Each row's truth at it is lent beside this.
+// An event, and what the record tells of the last event before it: whether one was seen, and its time. Each row's truth at it is lent beside this; the
+// clock is not here, since no row is judged by it.
 pub(crate) struct Arrival {
     pub(crate) time: u64,
     pub(crate) mask: u32,
@@ -63,9 +60,10 @@ pub(crate) fn judge_rows(
     truths: &mut [u8; ROW_LIMIT],
     counts: &mut [u32; ROW_LIMIT],
 )
-    requires { ⌜ refusalOf (setupOf (now table)) (now store) (recordOf (arrival .seen) (arrival .last) rows (now found) (now counts)) (event (arrival .time) (arrival .mask)) ≡ none ⌝ }
+    requires { ⌜ Unrefused (now table) (now store) arrival rows (now found) (now counts) ⌝ }
     requires { ⌜ (rows ≡ rowsOf (now table)) × (now truths ≡ now found) ⌝ }
-    ensures { λ r. ⌜ AfterRows (moment (now (table .entry)) (now (store .entry)) (recordOf (arrival .seen) (arrival .last) rows (now (found .entry)) (now (counts .entry))) (arrival .time) (arrival .mask)) rows (now (truths .exit)) (now (counts .exit)) (now (store .exit)) ⌝ }
+    ensures { λ r. ⌜ AfterRows (momentMet (now (table .entry)) (now (store .entry)) arrival rows (now (found .entry)) (now (counts .entry)))
+        rows (now (truths .exit)) (now (counts .exit)) (now (store .exit)) ⌝ }
 {
     let mut from = 0;
     let mut row = 0;
@@ -90,8 +88,9 @@ fn judge_row(
     found: &[u8; ROW_LIMIT],
     truths: &[u8; ROW_LIMIT],
 ) -> Judgement
-    requires { ⌜ RowReady (now store) from numbers (record { count = count }) arrival (now truths) ⌝ }
-    ensures { λ r. ⌜ RowJudged (now (store .entry)) from numbers (record { count = count }) arrival (now (found .entry)) (now (truths .entry)) (now (store .exit)) r ⌝ }
+    requires { ⌜ RowReady (now store) from numbers (heldOf count) arrival (now truths) ⌝ }
+    ensures { λ r. ⌜ RowJudged (now (store .entry)) from numbers (heldOf count) arrival (now (found .entry)) (now (truths .entry))
+        (now (store .exit)) r ⌝ }
 {
     let end = from + stretch::words(numbers) as usize;
     if stretch::is_owned(numbers) {
@@ -159,10 +158,10 @@ fn judge_stretch(
     time: u64,
     numbers: Numbers,
 ) -> Updated
-    requires { ⌜ (from ≤ end) × (end ≤ length (now store)) × (time ≤ timeLimit) ⌝ }
-    requires { ⌜ Packed (stretchIn from end (now store)) (record { count = count }) ⌝ }
-    requires { ⌜ 2 * length (update keep feed time (reachedFrom time (numbers .a) (endOf (numbers .b))) (spansHeld (stretchIn from end (now store)) (record { count = count }))) ≤ end - from ⌝ }
-    ensures { λ r. ⌜ UpdatedIn from end (now (store .entry)) (now (store .exit)) r time (update keep feed time (reachedFrom time (numbers .a) (endOf (numbers .b))) (spansHeld (stretchIn from end (now (store .entry))) (record { count = count }))) ⌝ }
+    requires { ⌜ time ≤ timeLimit ⌝ }
+    requires { ⌜ UpdateReady from end (now store) (heldOf count) keep feed time (reachedFrom time (numbers .a) (endOf (numbers .b))) ⌝ }
+    ensures { λ r. ⌜ UpdatedIn from end (now (store .entry)) (heldOf count) keep feed time (reachedFrom time (numbers .a) (endOf (numbers .b)))
+        r (now (store .exit)) ⌝ }
 {
     let held = Held {
         count: count as usize,
@@ -184,10 +183,8 @@ fn update_in(
     first: u64,
     last: u64,
 ) -> Updated
-    requires { ⌜ (from ≤ end) × (end ≤ length (now store)) ⌝ }
-    requires { ⌜ Packed (stretchIn from end (now store)) held ⌝ }
-    requires { ⌜ 2 * length (update keep feed time (first to endAt last) (spansHeld (stretchIn from end (now store)) held)) ≤ end - from ⌝ }
-    ensures { λ r. ⌜ UpdatedIn from end (now (store .entry)) (now (store .exit)) r time (update keep feed time (first to endAt last) (spansHeld (stretchIn from end (now (store .entry))) held)) ⌝ }
+    requires { ⌜ UpdateReady from end (now store) held keep feed time (first to endAt last) ⌝ }
+    ensures { λ r. ⌜ UpdatedIn from end (now (store .entry)) held keep feed time (first to endAt last) r (now (store .exit)) ⌝ }
 {
     update(&mut store[from..end], held, keep, feed, time, first, last)
 }
@@ -250,7 +247,7 @@ fn either(x: bool, y: bool) -> bool
 // Previous x: the truth and the time found; false if no event was seen.
 fn previous(arrival: Arrival, found: &[u8; ROW_LIMIT], numbers: Numbers) -> bool
     requires { ⌜ numbers .x < rowLimit ⌝ }
-    ensures { λ r. ⌜ r ≡ (isTrue (arrival .seen) && truthAt (now (found .entry)) (numbers .x) && within? (numbers .a) (endOf (numbers .b)) (arrival .last) (arrival .time)) ⌝ }
+    ensures { λ r. ⌜ r ≡ previousHeld arrival (now (found .entry)) numbers ⌝ }
 {
     if arrival.seen == 1 {
         if truth_at(found, numbers.x) {

@@ -9,7 +9,7 @@ ghost use Prim.Native.Nat.{_≤_};
 ghost use lib.Dec.{leb};
 ghost use Rattle.meaning.specs.FrameTime.{frameTime};
 ghost use Rattle.times.specs.Times.{timeLimit};
-ghost use Rattle.monitor.specs.Step.{frameTimeOf, saidTime};
+ghost use Rattle.monitor.specs.Step.{TimeGives};
 
 // The board's counter has sixteen bits.
 const TURN: u64 = 65_536;
@@ -17,7 +17,7 @@ const TURN: u64 = 65_536;
 // The time of a frame: last, and the gap that the counter shows since. Refused 6 where last is over the limit. Only last is judged: the time may
 // pass the limit, and the event then refuses it.
 pub fn frame_time(last: u64, counter: u16) -> Timed
-    ensures { λ r. ⌜ saidTime r ≡ frameTimeOf last counter ⌝ }
+    ensures { λ r. ⌜ TimeGives last counter r ⌝ }
 {
     if TIME_LIMIT < last {
         return Timed::Refused(Refusal::Late);
@@ -25,14 +25,14 @@ pub fn frame_time(last: u64, counter: u16) -> Timed
     Timed::At(time_after(last, counter))
 }
 
-// The time at which a frame is judged; 0 where last is over the limit, since such a record is refused 7 at any time.
-pub(crate) fn time_shown(last: u64, counter: u16) -> u64
-    ensures { λ r. ⌜ r ≡ cond (leb last timeLimit) (frameTime last counter) 0 ⌝ }
+// The time at which a frame is judged; 0 where the clock is over the limit, since such a record is refused 7 at any time.
+pub(crate) fn time_shown(clock: u64, counter: u16) -> u64
+    ensures { λ r. ⌜ r ≡ cond (leb clock timeLimit) (frameTime clock counter) 0 ⌝ }
 {
-    if TIME_LIMIT < last {
+    if TIME_LIMIT < clock {
         return 0;
     }
-    time_after(last, counter)
+    time_after(clock, counter)
 }
 
 // The low sixteen bits of last are subtracted from the counter with wrap.

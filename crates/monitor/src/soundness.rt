@@ -22,7 +22,7 @@ ghost use Rattle.rules.specs.Limits.{rowLimit};
 ghost use Rattle.rules.specs.Rows.{rowsOf};
 ghost use Rattle.rules.specs.Stretches.{spansOf, width};
 ghost use Rattle.times.specs.Times.{timeLimit};
-ghost use Rattle.monitor.specs.Core.{recordOf};
+ghost use Rattle.monitor.specs.Core.{heldOf, recordOf};
 ghost use Rattle.monitor.specs.Soundness.{every, truthByte?, soundEntry?, soundLimits?, soundRow?, zeroPast?, soundTime?, sound?};
 ghost use Rattle.monitor.specs.Ready.{readyOf, refusalIn};
 
@@ -32,20 +32,22 @@ pub(crate) fn sound_record(
     store: &[u64],
     rows: usize,
     seen: u8,
-    time: u64,
+    clock: u64,
+    last: u64,
     count: u32,
     truths: &[u8; ROW_LIMIT],
     counts: &[u32; ROW_LIMIT],
 ) -> bool
     requires { ⌜ refusalIn (readyOf (now table) (length (now store))) ≡ none ⌝ }
-    requires { ⌜ rows ≡ rowsOf (now table) ⌝ }
-    ensures { λ r. ⌜ r ≡ sound? (now (table .entry)) (now (store .entry)) (recordOf seen time count (now (truths .entry)) (now (counts .entry))) ⌝ }
+    requires { ⌜ (rows ≡ rowsOf (now table)) × (clock ≡ last) ⌝ }
+    ensures { λ r. ⌜ r ≡ sound? (now (table .entry)) (now (store .entry))
+        (recordOf seen clock count (now (truths .entry)) (now (counts .entry))) ⌝ }
 {
     if count as usize != rows {
         return false;
     }
-    if sound_time(seen, time) {
-        if sound_rows(table, store, rows, seen, time, truths, counts) {
+    if sound_time(seen, clock) {
+        if sound_rows(table, store, rows, seen, clock, last, truths, counts) {
             return zero_past(rows, truths, counts);
         }
     }
@@ -70,13 +72,15 @@ fn sound_rows(
     store: &[u64],
     rows: usize,
     seen: u8,
-    time: u64,
+    clock: u64,
+    last: u64,
     truths: &[u8; ROW_LIMIT],
     counts: &[u32; ROW_LIMIT],
 ) -> bool
     requires { ⌜ refusalIn (readyOf (now table) (length (now store))) ≡ none ⌝ }
-    requires { ⌜ (rows ≡ rowsOf (now table)) × (time ≤ timeLimit) ⌝ }
-    ensures { λ r. ⌜ r ≡ every rows (soundRow? (now (table .entry)) (now (store .entry)) (recordOf seen time rows (now (truths .entry)) (now (counts .entry)))) ⌝ }
+    requires { ⌜ (rows ≡ rowsOf (now table)) × (clock ≡ last) × (last ≤ timeLimit) ⌝ }
+    ensures { λ r. ⌜ r ≡ every rows (soundRow? (now (table .entry)) (now (store .entry))
+        (recordOf seen clock rows (now (truths .entry)) (now (counts .entry)))) ⌝ }
 {
     let mut from = 0;
     let mut row = 0;
@@ -89,7 +93,8 @@ fn sound_rows(
             numbers,
             spans,
             seen == 1,
-            time,
+            clock,
+            last,
             truths[row],
             counts[row],
         ) {
@@ -108,18 +113,19 @@ fn sound_row(
     numbers: Numbers,
     spans: u64,
     seen: bool,
-    time: u64,
+    clock: u64,
+    last: u64,
     truth: u8,
     count: u32,
 ) -> bool
-    requires { ⌜ (spans ≡ spansOf numbers) × (length (now words) ≡ width numbers) × (time ≤ timeLimit) ⌝ }
-    ensures { λ r. ⌜ r ≡ (soundEntry? seen truth count numbers && soundLimits? (now (words .entry)) (record { count = count }) time time numbers) ⌝ }
+    requires { ⌜ (spans ≡ spansOf numbers) × (length (now words) ≡ width numbers) × (last ≤ timeLimit) ⌝ }
+    ensures { λ r. ⌜ r ≡ (soundEntry? seen truth count numbers && soundLimits? (now (words .entry)) (heldOf count) clock last numbers) ⌝ }
 {
     if sound_entry(spans, seen, truth, count) {
         if spans == 0 {
             return true;
         }
-        return sound_stretch(words, count, time, numbers);
+        return sound_stretch(words, count, clock, last, numbers);
     }
     false
 }
@@ -143,22 +149,22 @@ fn sound_entry(spans: u64, seen: bool, truth: u8, count: u32) -> bool
     false
 }
 
-// One stretch, by the limits of its row.
-fn sound_stretch(words: &[u64], count: u32, time: u64, numbers: Numbers) -> bool
-    requires { ⌜ time ≤ timeLimit ⌝ }
-    ensures { λ r. ⌜ r ≡ soundLimits? (now (words .entry)) (record { count = count }) time time numbers ⌝ }
+// One stretch, by the limits of its row: firsts from the clock on, the latest first and last by the last event's time.
+fn sound_stretch(words: &[u64], count: u32, clock: u64, last: u64, numbers: Numbers) -> bool
+    requires { ⌜ last ≤ timeLimit ⌝ }
+    ensures { λ r. ⌜ r ≡ soundLimits? (now (words .entry)) (heldOf count) clock last numbers ⌝ }
 {
     let held = Held {
         count: count as usize,
     };
-    let first = time + wide(numbers.a);
-    let last = last_reached(time, numbers.b);
+    let latest_first = last + wide(numbers.a);
+    let latest_last = last_reached(last, numbers.b);
     sound(
         words,
         held,
-        time,
-        first,
-        last,
+        clock,
+        latest_first,
+        latest_last,
         length_of(numbers.a, numbers.b),
     )
 }

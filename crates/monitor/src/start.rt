@@ -6,12 +6,11 @@ use crate::ready::ready;
 use crate::record::nothing_seen;
 use rules::table::Checked;
 use spans::words::clear_words;
-ghost use mathlib.Core.Path.{_≡_};
-ghost use Rattle.monitor.specs.Start.{startOf, saidStart};
+ghost use Rattle.monitor.specs.Start.{StartGives};
 
-// A record with nothing seen, or a refusal 1 to 4 and an all-zero record. A good start writes 0 to every word of the need and no other.
+// The need and a record with nothing seen, or a refusal 1 to 4 and an all-zero record. A good start writes 0 to every word of the need and no other.
 pub fn start(table: &[u32], store: &mut [u64]) -> Started
-    ensures { λ r. ⌜ saidStart r (now (store .exit)) ≡ startOf (now (table .entry)) (now (store .entry)) ⌝ }
+    ensures { λ r. ⌜ StartGives (now (table .entry)) (now (store .entry)) r (now (store .exit)) ⌝ }
 {
     let room = store.len();
     let checked = ready(table, room);
@@ -23,7 +22,7 @@ pub fn start(table: &[u32], store: &mut [u64]) -> Started
         Checked::Passed { rows, need } => {
             clear_words(&mut store[0..need as usize]);
             Started {
-                answer: StartAnswer::Good,
+                answer: StartAnswer::Good { need },
                 record: nothing_seen(rows),
             }
         }

@@ -19,15 +19,16 @@ ghost use mathlib.Core.Path.{_≡_};
 ghost use lib.ListN.{length};
 ghost use Rattle.rules.specs.Rows.{rowsOf};
 ghost use Rattle.rules.specs.Table.{checkReply};
-ghost use Rattle.monitor.specs.Core.{recordOf, fitOf, LeftIn, recordLeft};
+ghost use Rattle.monitor.specs.Core.{recordMet, outcomeMet, Unrefused, fitOf, LeftIn, recordLeft};
 ghost use Rattle.monitor.specs.Soundness.{sound?};
 ghost use Rattle.monitor.specs.Ready.{readyOf, refusalIn};
-ghost use Rattle.monitor.specs.Step.{setupOf, event, frame, refusalOf, stepOf, saidStep};
+ghost use Rattle.monitor.specs.Step.{setupOf, event, frame, StepGives};
 
 // The verdict on an event, or a refusal 1 to 4, 7, 6 or 5, with the record after it. No word past the need is written.
 pub fn event(table: &[u32], store: &mut [u64], found: Record, time: u64, mask: u32) -> Judged
-    ensures { λ r. ⌜ saidStep r (now (store .exit)) ≡ stepOf (setupOf (now (table .entry))) (now (store .entry)) found (event time mask) ⌝ }
+    ensures { λ r. ⌜ StepGives (setupOf (now (table .entry))) (now (store .entry)) found (event time mask) r (now (store .exit)) ⌝ }
 {
+    let clock = found.time;
     let arrival = Arrival {
         time,
         mask,
@@ -37,16 +38,17 @@ pub fn event(table: &[u32], store: &mut [u64], found: Record, time: u64, mask: u
     let mut truths = found.truths;
     let mut counts = found.counts;
     let rows = found.rows;
-    let answer = judge(table, store, arrival, rows, &mut truths, &mut counts);
-    give(answer, arrival, rows, truths, counts)
+    let answer = judge(table, store, arrival, clock, rows, &mut truths, &mut counts);
+    give(answer, arrival, clock, rows, truths, counts)
 }
 
 // The same for a frame, at the time that its counter shows. A refused frame does not move the time.
 pub fn frame(table: &[u32], store: &mut [u64], found: Record, counter: u16, mask: u32) -> Judged
-    ensures { λ r. ⌜ saidStep r (now (store .exit)) ≡ stepOf (setupOf (now (table .entry))) (now (store .entry)) found (frame counter mask) ⌝ }
+    ensures { λ r. ⌜ StepGives (setupOf (now (table .entry))) (now (store .entry)) found (frame counter mask) r (now (store .exit)) ⌝ }
 {
+    let clock = found.time;
     let arrival = Arrival {
-        time: time_shown(found.time, counter),
+        time: time_shown(clock, counter),
         mask,
         seen: found.seen,
         last: found.time,
@@ -54,30 +56,25 @@ pub fn frame(table: &[u32], store: &mut [u64], found: Record, counter: u16, mask
     let mut truths = found.truths;
     let mut counts = found.counts;
     let rows = found.rows;
-    let answer = judge(table, store, arrival, rows, &mut truths, &mut counts);
-    give(answer, arrival, rows, truths, counts)
+    let answer = judge(table, store, arrival, clock, rows, &mut truths, &mut counts);
+    give(answer, arrival, clock, rows, truths, counts)
 }
 
-// Refusals 1 to 4 and 7, then what a sound record is answered.
+// Refusals 1 to 4 and 7, then what a sound record is answered. The clock is the last event's time: every accepted call is an event.
 fn judge(
     table: &[u32],
     store: &mut [u64],
     arrival: Arrival,
+    clock: u64,
     count: u32,
     truths: &mut [u8; ROW_LIMIT],
     counts: &mut [u32; ROW_LIMIT],
 ) -> Answer
-    ensures { λ r. ⌜ LeftIn (stepOf (setupOf (now (table .entry))) (now (store .entry)) (recordOf (arrival .seen) (arrival .last) count (now (truths .entry)) (now (counts .entry))) (event (arrival .time) (arrival .mask))) r (now (truths .exit)) (now (counts .exit)) (now (store .exit)) ⌝ }
+    requires { ⌜ clock ≡ arrival .last ⌝ }
+    ensures { λ r. ⌜ LeftIn (outcomeMet (now (table .entry)) (now (store .entry)) arrival count (now (truths .entry)) (now (counts .entry)))
+        r (now (truths .exit)) (now (counts .exit)) (now (store .exit)) ⌝ }
 {
-    let checked = fit(
-        table,
-        store,
-        arrival.seen,
-        arrival.last,
-        count,
-        truths,
-        counts,
-    );
+    let checked = fit(table, store, arrival, clock, count, truths, counts);
     match checked {
         Checked::Refused(refusal) => Answer::Refused(refusal),
         Checked::Passed { rows, need: _ } => judge_sound(
@@ -85,6 +82,7 @@ fn judge(
             store,
             rows as usize,
             arrival,
+            clock,
             truths,
             counts,
         ),
@@ -95,13 +93,15 @@ fn judge(
 fn fit(
     table: &[u32],
     store: &[u64],
-    seen: u8,
-    time: u64,
+    arrival: Arrival,
+    clock: u64,
     count: u32,
     truths: &[u8; ROW_LIMIT],
     counts: &[u32; ROW_LIMIT],
 ) -> Checked
-    ensures { λ r. ⌜ checkReply r ≡ fitOf (now (table .entry)) (now (store .entry)) (recordOf seen time count (now (truths .entry)) (now (counts .entry))) ⌝ }
+    requires { ⌜ clock ≡ arrival .last ⌝ }
+    ensures { λ r. ⌜ checkReply r ≡ fitOf (now (table .entry)) (now (store .entry))
+        (recordMet arrival count (now (truths .entry)) (now (counts .entry))) ⌝ }
 {
     let checked = ready(table, store.len());
     match checked {
@@ -111,8 +111,9 @@ fn fit(
                 table,
                 store,
                 rows as usize,
-                seen,
-                time,
+                arrival.seen,
+                clock,
+                arrival.last,
                 count,
                 truths,
                 counts,
@@ -130,17 +131,19 @@ fn judge_sound(
     store: &mut [u64],
     rows: usize,
     arrival: Arrival,
+    clock: u64,
     truths: &mut [u8; ROW_LIMIT],
     counts: &mut [u32; ROW_LIMIT],
 ) -> Answer
     requires { ⌜ (refusalIn (readyOf (now table) (length (now store))) ≡ none) × (rows ≡ rowsOf (now table)) ⌝ }
-    requires { ⌜ sound? (now table) (now store) (recordOf (arrival .seen) (arrival .last) rows (now truths) (now counts)) ≡ true ⌝ }
-    ensures { λ r. ⌜ LeftIn (stepOf (setupOf (now (table .entry))) (now (store .entry)) (recordOf (arrival .seen) (arrival .last) rows (now (truths .entry)) (now (counts .entry))) (event (arrival .time) (arrival .mask))) r (now (truths .exit)) (now (counts .exit)) (now (store .exit)) ⌝ }
+    requires { ⌜ (sound? (now table) (now store) (recordMet arrival rows (now truths) (now counts)) ≡ true) × (clock ≡ arrival .last) ⌝ }
+    ensures { λ r. ⌜ LeftIn (outcomeMet (now (table .entry)) (now (store .entry)) arrival rows (now (truths .entry)) (now (counts .entry)))
+        r (now (truths .exit)) (now (counts .exit)) (now (store .exit)) ⌝ }
 {
     if TIME_LIMIT < arrival.time {
         return Answer::Refused(Refusal::Late);
     }
-    if arrival.time < arrival.last {
+    if arrival.time < clock {
         return Answer::Refused(Refusal::Earlier);
     }
     accept(table, store, rows, arrival, truths, counts)
@@ -155,9 +158,9 @@ fn accept(
     truths: &mut [u8; ROW_LIMIT],
     counts: &mut [u32; ROW_LIMIT],
 ) -> Answer
-    requires { ⌜ refusalOf (setupOf (now table)) (now store) (recordOf (arrival .seen) (arrival .last) rows (now truths) (now counts)) (event (arrival .time) (arrival .mask)) ≡ none ⌝ }
-    requires { ⌜ rows ≡ rowsOf (now table) ⌝ }
-    ensures { λ r. ⌜ LeftIn (stepOf (setupOf (now (table .entry))) (now (store .entry)) (recordOf (arrival .seen) (arrival .last) rows (now (truths .entry)) (now (counts .entry))) (event (arrival .time) (arrival .mask))) r (now (truths .exit)) (now (counts .exit)) (now (store .exit)) ⌝ }
+    requires { ⌜ Unrefused (now table) (now store) arrival rows (now truths) (now counts) × (rows ≡ rowsOf (now table)) ⌝ }
+    ensures { λ r. ⌜ LeftIn (outcomeMet (now (table .entry)) (now (store .entry)) arrival rows (now (truths .entry)) (now (counts .entry)))
+        r (now (truths .exit)) (now (counts .exit)) (now (store .exit)) ⌝ }
 {
     let found = *truths;
     judge_rows(table, store, rows, arrival, &found, truths, counts);
@@ -168,18 +171,19 @@ fn accept(
 fn give(
     answer: Answer,
     arrival: Arrival,
+    clock: u64,
     rows: u32,
     truths: [u8; ROW_LIMIT],
     counts: [u32; ROW_LIMIT],
 ) -> Judged
-    ensures { λ r. ⌜ (r .answer ≡ answer) × (r .record ≡ recordLeft answer arrival rows truths counts) ⌝ }
+    ensures { λ r. ⌜ (r .answer ≡ answer) × (r .record ≡ recordLeft answer arrival clock rows truths counts) ⌝ }
 {
     match answer {
         Answer::Refused(refusal) => Judged {
             answer: Answer::Refused(refusal),
             record: Record {
                 seen: arrival.seen,
-                time: arrival.last,
+                time: clock,
                 rows,
                 truths,
                 counts,

@@ -1,18 +1,16 @@
 -- `monitor::event::judge_plain` meets its contract, an arm for each thing that a row without a stretch says. Assumes nothing.
-use mathlib.Core.Bool.{false}
 use mathlib.Core.Path.{_≡_, sym, ap, _∙_}
 use borrow.Author.Needs.{needs}
-use Rattle.rules.specs.Kinds.{plain, ownsStretch, plainOf}
+use Rattle.rules.specs.Kinds.{plain}
 use Rattle.rules.specs.Rows.{ruleOf}
-use Rattle.rules.specs.declared.numbers.Numbers.{Numbers}
 use Rattle.rules.specs.declared.plain.Plain.{Plain}
 use Rattle.rules.proofs.KindsLaws.{bare-rule}
 use Rattle.monitor.proofs.event.judge_plain.Statement.{statement}
 use Rattle.monitor.proofs.event.judge_plain.Tie as tie
 
 -- What the row says is what was looked up and told apart.
-rule-is : (n : Numbers) {found told : Plain} → ownsStretch (n .kind) ≡ false → found ≡ plainOf (ruleOf n) → found ≡ told → ruleOf n ≡ plain told
-rule-is n bare looked is = bare-rule (ruleOf n) bare ∙ ap plain (sym looked ∙ is)
+rule-at : (c : tie.After-says) {told : Plain} → c .says .result ≡ told → ruleOf (c .before .args .numbers) ≡ plain told
+rule-at c is = bare-rule (ruleOf (c .before .args .numbers)) (c .before .pre .0) ∙ ap plain (sym (c .says .ensures) ∙ is)
 
 says-requires : tie.Need-says-requires
 says-requires c κs = search needs
@@ -67,27 +65,37 @@ previous-requires c κs = search needs
 
 returns : tie.Need-returns
 returns c = λ spans.
-    rw (rule-is (c .before .before .before .args .numbers) (c .before .before .before .pre .0) (c .before .before .says .ensures) (c .enum-told .given .1))
+    rw (rule-at (c .before .before) (c .enum-told .given .1))
 
 returns-2 : tie.Need-returns-2
 returns-2 c = λ spans.
-    rw (rule-is (c .before .before .before .before .args .numbers) (c .before .before .before .before .pre .0) (c .before .before .before .says .ensures) (c .before .enum-told2 .given .1), c .bit-set .ensures)
+    rw (rule-at (c .before .before .before) (c .before .enum-told2 .given .1), c .bit-set .ensures)
 
 returns-3 : tie.Need-returns-3
 returns-3 c = λ spans.
-    rw (rule-is (c .before .before .before .before .before .args .numbers) (c .before .before .before .before .before .pre .0) (c .before .before .before .before .says .ensures) (c .before .before .enum-told3 .given .1), c .negation .ensures, c .before .truth-at .ensures)
+    rw (rule-at (c .before .before .before .before) (c .before .before .enum-told3 .given .1), c .negation .ensures, c .before .truth-at .ensures)
 
 returns-4 : tie.Need-returns-4
 returns-4 c = λ spans.
-    rw (rule-is (c .before .before .before .before .before .before .args .numbers) (c .before .before .before .before .before .before .pre .0) (c .before .before .before .before .before .says .ensures) (c .before .before .before .enum-told4 .given .1), c .both .ensures, c .before .truth-at3 .ensures, c .before .before .truth-at2 .ensures)
+    rw (
+      rule-at (c .before .before .before .before .before) (c .before .before .before .enum-told4 .given .1),
+      c .both .ensures,
+      c .before .truth-at3 .ensures,
+      c .before .before .truth-at2 .ensures,
+    )
 
 returns-5 : tie.Need-returns-5
 returns-5 c = λ spans.
-    rw (rule-is (c .before .before .before .before .before .before .args .numbers) (c .before .before .before .before .before .before .pre .0) (c .before .before .before .before .before .says .ensures) (c .before .before .before .enum-told5 .given .1), c .either .ensures, c .before .truth-at5 .ensures, c .before .before .truth-at4 .ensures)
+    rw (
+      rule-at (c .before .before .before .before .before) (c .before .before .before .enum-told5 .given .1),
+      c .either .ensures,
+      c .before .truth-at5 .ensures,
+      c .before .before .truth-at4 .ensures,
+    )
 
 returns-6 : tie.Need-returns-6
 returns-6 c = λ spans.
-    rw (rule-is (c .before .before .before .before .args .numbers) (c .before .before .before .before .pre .0) (c .before .before .before .says .ensures) (c .before .enum-told6 .given .1), c .previous .ensures)
+    rw (rule-at (c .before .before .before) (c .before .enum-told6 .given .1), c .previous .ensures)
 
 pub judge-plain-spec : {M : Type 1} → statement M
 judge-plain-spec =

@@ -3,7 +3,7 @@ use mathlib.Core.Path.{sym, _∙_}
 use native.Mathlib.Omega.{arith}
 use denote.Ref.{now}
 use borrow.Author.Needs.{needs}
-use Rattle.monitor.proofs.RowLaws.{StretchRead, ends-within, stretch-laid, stretch-room, stretch-count, stretch-judged, plain-judged}
+use Rattle.monitor.proofs.RowLaws.{StretchRead, ends-within, stretch-ready, stretch-count, stretch-judged, plain-judged}
 use Rattle.monitor.proofs.event.judge_row.Statement.{statement}
 use Rattle.monitor.proofs.event.judge_row.Tie as tie
 
@@ -46,10 +46,8 @@ names c =
 judge-stretch-requires : tie.Need-judge-stretch-requires
 judge-stretch-requires c κs =
     let w = words-of (c .before) in
-    let ready = w .before .before .pre in (
-      (omega arith, ends-within ready (w .words .ensures), ready .early),
-      (stretch-laid ready (w .words .ensures) (names (c .before)), stretch-room ready (w .words .ensures) (names (c .before))),
-    )
+    let ready = w .before .before .pre in
+    (ready .early, stretch-ready ready (w .words .ensures) (names (c .before)))
 
 taken-requires : tie.Need-taken-requires
 taken-requires c κs = search needs

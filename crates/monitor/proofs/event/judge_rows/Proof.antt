@@ -12,7 +12,7 @@ use Rattle.rules.specs.Stretches.{offset}
 use Rattle.monitor.specs.declared.record.Record.{Record}
 use Rattle.monitor.specs.Event.{truthsAfter, countsAfter, wordsDone, storeAfter}
 use Rattle.monitor.specs.Step.{setupOf, event}
-use Rattle.monitor.specs.Core.{recordOf, moment, AfterRows}
+use Rattle.monitor.specs.Core.{recordMet, momentMet, AfterRows}
 use Rattle.monitor.proofs.AcceptedLaws.{Accepted, accepted}
 use Rattle.monitor.proofs.TurnLaws.{length-after, row-ready, next-place, row-turn}
 use Rattle.monitor.proofs.event.judge_rows.Statement.{statement}
@@ -22,7 +22,7 @@ abbrev Inv-loop : tie.InvT-loop
 Inv-loop table store₀ rows arrival found truths₀ counts₀ from₀ row₀ store truths counts from row =
     (row ≤ rows)
     × (from ≡ offset table row)
-    × AfterRows (moment table store₀ (recordOf (arrival .seen) (arrival .last) rows found counts₀) (arrival .time) (arrival .mask)) row truths counts store
+    × AfterRows (momentMet table store₀ arrival rows found counts₀) row truths counts store
 
 abbrev μ-loop : tie.MeasureT-loop
 μ-loop table store₀ rows arrival found truths₀ counts₀ from₀ row₀ store truths counts from row = rows - row
@@ -39,8 +39,7 @@ module _ (c : tie.At-loop Inv-loop μ-loop) where
   at-start = c .before .before .before
 
   abbrev kept : Record
-  kept =
-      recordOf (at-start .args .arrival .seen) (at-start .args .arrival .last) (at-start .args .rows) (now (at-start .args .found)) (now (at-start .args .counts))
+  kept = recordMet (at-start .args .arrival) (at-start .args .rows) (now (at-start .args .found)) (now (at-start .args .counts))
 
   met : Accepted (now (at-start .args .table)) (now (at-start .args .store)) kept (at-start .args .arrival .time)
   met =

@@ -15,7 +15,7 @@ last-reached-requires c κs = search needs
 update-in-requires : tie.Need-update-in-requires
 update-in-requires c κs =
     let start = c .before .before .before .before in
-    ((start .pre .0 .0, start .pre .0 .1), (start .pre .1 .0, rw (c .before .last-reached .ensures, c .before .before .wide .ensures) (start .pre .1 .1)))
+    rw (c .before .last-reached .ensures, c .before .before .wide .ensures) (start .pre .1)
 
 same-length : tie.Need-same-length
 same-length c = search needs

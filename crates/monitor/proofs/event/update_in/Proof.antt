@@ -5,10 +5,10 @@ use Prim.Native.Nat.{_*_, _-_, _≤_}
 use borrow.Author.Needs.{needs}
 use lib.ListN.{length}
 use borrow.Rule.Slice.PartMut.{mid-len, post-is}
-use Rattle.meaning.specs.Spans.{_to_, update}
-use Rattle.spans.specs.Layout.{endAt, spansHeld}
+use Rattle.meaning.specs.Spans.{_to_}
+use Rattle.spans.specs.Layout.{spanWords, endAt}
 use Rattle.spans.proofs.UpdateLaws.{update-laid, update-told}
-use Rattle.monitor.specs.Core.{stretchIn}
+use Rattle.monitor.specs.Core.{stretchIn, updateIn}
 use Rattle.monitor.proofs.event.update_in.Statement.{statement}
 use Rattle.monitor.proofs.event.update_in.Tie as tie
 
@@ -36,16 +36,15 @@ returns c =
     let args = start .args in
     let part = stretchIn (args .from) (args .end) (args .store .now) in
     let span = args .first to endAt (args .last) in
-    let size : length part ≡ args .end - args .from = mid-len (args .from) (args .end) (args .store .now) (start .pre .0 .1) in
-    let room : 2 * length (update (args .keep) (args .feed) (args .time) span (spansHeld part (args .held))) ≤ length part =
-    rw size (start .pre .1 .1)
-    in
+    let size : length part ≡ args .end - args .from = mid-len (args .from) (args .end) (args .store .now) (start .pre .inside) in
+    let S = updateIn (args .from) (args .end) (args .store .now) (args .held) (args .keep) (args .feed) (args .time) span in
+    let room : spanWords * length S ≤ length part = rw size (start .pre .room) in
     let done = c .before .before .update .ensures in
-    let laid = update-laid (args .keep) (args .feed) (args .time) span (start .pre .1 .0) room done in
+    let laid = update-laid (args .keep) (args .feed) (args .time) span (start .pre .laid) room done in
     record {
-      written = rw (post-is (args .from) (args .end) (args .store .now) (start .pre .0 .0), laid .written, size);
+      written = rw (post-is (args .from) (args .end) (args .store .now) (start .pre .order), laid .written, size);
       counted = laid .counted;
-      told = update-told (args .keep) (args .feed) (args .time) span (start .pre .1 .0) room done;
+      told = update-told (args .keep) (args .feed) (args .time) span (start .pre .laid) room done;
     }
 
 pub update-in-spec : {M : Type 1} → statement M

@@ -23,7 +23,7 @@ returns c =
     rw (← (pre .0), ← (d .sound-entry .ensures)) (c .before .if1 .taken)
     in
     let within : args .count ≤ args .spans = rw (pre .0) (entry-within (args .seen) (args .truth) (args .count) (args .numbers) entry) in
-    rw (entry, bare-sound (now (args .words)) (args .count) (args .time) (args .numbers) (omega (arith, pre)) (omega arith))
+    rw (entry, bare-sound (now (args .words)) (args .count) (args .clock) (args .last) (args .numbers) (omega (arith, pre)) (omega arith))
 
 sound-stretch-requires : tie.Need-sound-stretch-requires
 sound-stretch-requires c κs = search needs

@@ -12,6 +12,7 @@ use Rattle.rules.specs.Limits.{rowLimit}
 use Rattle.rules.specs.Rows.{rowsOf}
 use Rattle.rules.specs.Stretches.{width, offset}
 use Rattle.rules.proofs.StretchesLaws.{spans-below}
+use Rattle.spans.specs.Layout.{spanWords}
 use Rattle.monitor.specs.declared.record.Record.{Record}
 use Rattle.monitor.specs.Core.{recordOf}
 use Rattle.monitor.specs.Soundness.{every, soundRow?}
@@ -21,11 +22,11 @@ use Rattle.monitor.proofs.soundness.sound_rows.Statement.{statement}
 use Rattle.monitor.proofs.soundness.sound_rows.Tie as tie
 
 abbrev Inv-loop : tie.InvT-loop
-Inv-loop table store rows seen time truths counts from₀ row₀ from row =
-    (row ≤ rows) × (from ≡ offset table row) × (every row (soundRow? table store (recordOf seen time rows truths counts)) ≡ true)
+Inv-loop table store rows seen clock last truths counts from₀ row₀ from row =
+    (row ≤ rows) × (from ≡ offset table row) × (every row (soundRow? table store (recordOf seen clock rows truths counts)) ≡ true)
 
 abbrev μ-loop : tie.MeasureT-loop
-μ-loop table store rows seen time truths counts from₀ row₀ from row = rows - row
+μ-loop table store rows seen clock last truths counts from₀ row₀ from row = rows - row
 
 loop-holds : tie.Need-loop-holds Inv-loop μ-loop
 unfolding every offset
@@ -47,15 +48,15 @@ module _ (c : tie.After-spans Inv-loop μ-loop) where
 
   abbrev kept : Record
   kept =
-      recordOf (at-start .args .seen) (at-start .args .time) (at-start .args .rows) (now (at-start .args .truths)) (now (at-start .args .counts))
+      recordOf (at-start .args .seen) (at-start .args .clock) (at-start .args .rows) (now (at-start .args .truths)) (now (at-start .args .counts))
 
   few : c .before .before .before .loop .row < rowLimit
   few = omega (arith, ready .passes .few-rows)
 
-  wide : 2 * c .spans .result ≡ width (c .before .numbers-at .result)
+  wide : spanWords * c .spans .result ≡ width (c .before .numbers-at .result)
   wide = rw (c .spans .ensures)
 
-  fits : c .before .before .before .loop .from + 2 * c .spans .result ≤ length (now (at-start .args .store))
+  fits : c .before .before .before .loop .from + spanWords * c .spans .result ≤ length (now (at-start .args .store))
   fits =
       stretch-fits (now (at-start .args .table)) (length (now (at-start .args .store))) (rowsOf (now (at-start .args .table)))
       (c .before .before .before .loop .row) ready (omega arith)
@@ -94,10 +95,10 @@ sound-row-requires : tie.Need-sound-row-requires Inv-loop μ-loop
 sound-row-requires c κs =
     let s = c .before .before .before in
     let from = s .before .before .before .loop .from in
-    let all : from + 2 * s .spans .result - from ≡ 2 * s .spans .result = omega arith in (
+    let all : from + spanWords * s .spans .result - from ≡ spanWords * s .spans .result = omega arith in (
       s .spans .ensures,
-      mid-len from (from + 2 * s .spans .result) (now (at-start s .args .store)) (fits s) ∙ all ∙ wide s,
-      at-start s .pre .1 .1,
+      mid-len from (from + spanWords * s .spans .result) (now (at-start s .args .store)) (fits s) ∙ all ∙ wide s,
+      at-start s .pre .1 .2,
     )
 
 -- The answer is the row's.
@@ -108,7 +109,7 @@ told : (c : tie.After-sound-row Inv-loop μ-loop)
 told c =
     let s = c .before .before .before .before in
     row-told (now (at-start s .args .table)) (now (at-start s .args .store)) (kept s) (s .before .before .before .loop .row)
-    (s .before .numbers-at .ensures) (s .before .before .before .loop .inv .1) (wide s) (c .sound-row .ensures)
+    (s .before .numbers-at .ensures) (s .before .before .before .loop .inv .1) (wide s) (at-start s .pre .1 .1) (c .sound-row .ensures)
 
 add-row : tie.Need-add-row Inv-loop μ-loop
 add-row c = omega arith

@@ -6,8 +6,8 @@ use Rattle.monitor.proofs.soundness.sound_stretch.Tie as tie
 wide-requires : tie.Need-wide-requires
 wide-requires c κs = search needs
 
-add-first : tie.Need-add-first
-add-first c = search needs
+add-latest-first : tie.Need-add-latest-first
+add-latest-first c = search needs
 
 last-reached-requires : tie.Need-last-reached-requires
 last-reached-requires c κs = search needs
@@ -32,7 +32,7 @@ sound-stretch-spec =
     tie.close
     (tie.spec
     wide-requires
-    add-first
+    add-latest-first
     last-reached-requires
     length-of-requires
     sound-requires

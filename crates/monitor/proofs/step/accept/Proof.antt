@@ -5,7 +5,7 @@ use denote.Ref.{now}
 use borrow.Author.Needs.{needs}
 use Rattle.rules.specs.Limits.{rowLimit}
 use Rattle.monitor.specs.Step.{setupOf, event}
-use Rattle.monitor.specs.Core.{recordOf}
+use Rattle.monitor.specs.Core.{recordMet}
 use Rattle.monitor.proofs.AcceptedLaws.{accepted}
 use Rattle.monitor.proofs.StepLaws.{left-accepted}
 use Rattle.monitor.proofs.step.accept.Statement.{statement}
@@ -23,7 +23,7 @@ module _ (c : tie.After-slice-known2) where
       let args = at-start .args in
       let passes =
       accepted (setupOf (now (args .table))) (now (args .store))
-      (recordOf (args .arrival .seen) (args .arrival .last) (args .rows) (now (args .truths)) (now (args .counts)))
+      (recordMet (args .arrival) (args .rows) (now (args .truths)) (now (args .counts)))
       (event (args .arrival .time) (args .arrival .mask)) (at-start .pre .0) .ready .passes
       in
       (omega (arith, at-start .pre .1, passes .some-row), omega (arith, at-start .pre .1, passes .few-rows))

@@ -4,7 +4,7 @@ use denote.Ref.{now}
 use borrow.Author.Needs.{needs}
 use Rattle.rules.specs.Table.{checkReply}
 use Rattle.monitor.specs.declared.record.Record.{Record}
-use Rattle.monitor.specs.Core.{recordOf}
+use Rattle.monitor.specs.Core.{recordMet}
 use Rattle.monitor.proofs.SoundnessLaws.{sound-parts}
 use Rattle.monitor.proofs.StepLaws.{left-refused, fit-refused, Fit, fit-gives}
 use Rattle.monitor.proofs.step.judge.Statement.{statement}
@@ -25,8 +25,7 @@ module _ (c : tie.After-known-told2) where
   at-start = c .before .before .before .before .before .before .before .before .before
 
   abbrev kept : Record
-  kept =
-      recordOf (at-start .args .arrival .seen) (at-start .args .arrival .last) (at-start .args .count) (now (at-start .args .truths)) (now (at-start .args .counts))
+  kept = recordMet (at-start .args .arrival) (at-start .args .count) (now (at-start .args .truths)) (now (at-start .args .counts))
 
   fits : Fit (now (at-start .args .table)) (now (at-start .args .store)) kept (c .before .checked2 .given .0 .0)
   fits = fit-gives _ _ _ _ _ (sym (ap checkReply (c .before .checked2 .given .1)) ∙ c .before .before .before .fit .ensures)
@@ -40,7 +39,7 @@ cast-judge-sound c = search needs
 judge-sound-requires : tie.Need-judge-sound-requires
 judge-sound-requires c κs =
     let known = c .before .before .before in
-    ((fits known .ready, fits known .counted), rw (← (counted known)) (fits known .sound))
+    ((fits known .ready, fits known .counted), (rw (← (counted known)) (fits known .sound), at-start known .pre))
 
 same-length : tie.Need-same-length
 same-length c = search needs
