@@ -6,6 +6,7 @@ use mathlib.Core.Path.{_≡_, refl}
 use Prim.Native.Nat.{ℕ, _≤_}
 use native.Mathlib.Omega.{arith}
 use lib.Dec.{leb}
+use lib.ListN.{length}
 use borrow.Author.Tests.{leb-true}
 use Rattle.rules.specs.Rows.{rowsOf}
 use Rattle.rules.specs.Stretches.{needOf}
@@ -14,6 +15,7 @@ use Rattle.rules.specs.Table.{CheckReply, passed, refusedBy, checkOf}
 use Rattle.refusals.specs.declared.refusal.Refusal.the-variants.{Store}
 use Rattle.rules.proofs.PassedLaws.{Passed, passed-gives}
 use Rattle.monitor.specs.Ready.{withRoom, readyOf, refusalIn}
+use Rattle.monitor.specs.Start.{begin, startOf}
 
 -- The table passes, and the store has room for its need.
 pub record Ready (table : List ℕ) (size rows : ℕ) : Type 0 where
@@ -53,3 +55,12 @@ ready-none table size h =
     let given : Ready table size (by .0) = ready-gives table size (by .0) (by .1) (by .2) in
     let counted : by .0 ≡ rowsOf table = given .passes .counted in
     rw counted at given
+
+-- A good start answers the table's need.
+pub start-need : (table store : List ℕ) → startOf table store .refusal ≡ none → startOf table store .need ≡ needOf table
+unfolding startOf readyOf
+start-need table store good = by (readyOf table (length store)) refl good
+  where
+    by : (said : CheckReply) → readyOf table (length store) ≡ said → begin store said .refusal ≡ none → begin store said .need ≡ needOf table
+    by (passed rows need) is good = passed-gives table rows need (room-parts (length store) rows need (checkOf table) is .0) .needed
+    by (refusedBy fault) is good = let z : _≡_ {A = ℕ} 0 1 = cc in absurd (omega arith)

@@ -5,6 +5,7 @@ use Prim.Native.Nat.{ℕ, zero, suc}
 use native.Mathlib.Nat.{add-zero}
 use Rattle.rules.specs.Rows.{rowsOf, numbersAt}
 use Rattle.rules.specs.Stretches.{offset}
+use Rattle.monitor.proofs.ReadyLaws.{start-need}
 use Rattle.promises.specs.Need.{Needs, none, since, other, NeedFollows}
 use Rattle.promises.proofs.StretchTold.{since-or-other, since-rule, other-rule, since-spans, other-spans}
 
@@ -22,4 +23,5 @@ need-follows =
     record {
       row = λ n. record { since = since-rule n; other = other-rule n };
       table = λ table. needs table (rowsOf table);
+      start = start-need;
     }

@@ -11,7 +11,9 @@ use Rattle.rules.specs.Kinds.{stretch, xSinceY, hasStretch}
 use Rattle.rules.specs.Rows.{rowsOf, numbersAt, ruleOf}
 use Rattle.rules.specs.Stretches.{needOf}
 use Rattle.rules.specs.declared.numbers.Numbers.{Numbers}
+use Rattle.monitor.specs.Start.{startOf}
 use Rattle.promises.specs.Conditions.{IsSince}
+use Rattle.promises.specs.Stream.{Starts}
 
 -- A since row has a stretch, kept while x is true, fed where y is, true inside a span; no other row has one.
 pub record OwnsStretch (n : Numbers) : Type 0 where
@@ -30,3 +32,5 @@ pub data Needs (table : List ℕ) : (n words : ℕ) → Type 0 where
 pub record NeedFollows : Type 0 where
   pub row : (n : Numbers) → OwnsStretch n
   pub table : (table : List ℕ) → Needs table (rowsOf table) (needOf table)
+  -- A good start answers it.
+  pub start : (table store : List ℕ) → Starts table store → startOf table store .need ≡ needOf table

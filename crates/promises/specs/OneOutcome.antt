@@ -1,6 +1,6 @@
 -- "Every public function states what it returns and what each word it was lent holds at the end, for all inputs ..; Show that any two outcomes it allows
--- are the same": for each public function of the monitor, for the equation that its contract states. Those of the other crates are in their
--- proofs/Outcomes.
+-- are the same": for each public function of the monitor, for the relation that its contract cites. Those of the other crates are in their
+-- proofs/Outcomes; where a contract is `r ≡ value`, `one-value` of `meaning` says it.
 use mathlib.Core.List.{List}
 use mathlib.Core.Path.{_≡_}
 use Prim.Native.Nat.{ℕ}
@@ -8,8 +8,8 @@ use Rattle.monitor.specs.declared.record.Record.{Record}
 use Rattle.monitor.specs.declared.answer.Judged.{Judged}
 use Rattle.monitor.specs.declared.answer.Started.{Started}
 use Rattle.monitor.specs.declared.answer.Timed.{Timed}
-use Rattle.monitor.specs.Start.{saidStart, startOf}
-use Rattle.monitor.specs.Step.{Setup, Call, saidStep, stepOf, saidTime, frameTimeOf}
+use Rattle.monitor.specs.Start.{StartGives}
+use Rattle.monitor.specs.Step.{Setup, Call, StepGives, TimeGives}
 
 -- Any two that meet a condition are the same.
 abbrev pub AtMostOne : {A : Type 0} → (A → Type 0) → Type 0
@@ -22,7 +22,7 @@ pub record With (Result : Type 0) : Type 0 where
 
 pub record OneOutcome : Type 0 where
   -- `start`, an event or a frame, and the time of a frame.
-  pub start : (table store : List ℕ) → AtMostOne (λ (o : With Started). saidStart (o .result) (o .store) ≡ startOf table store)
+  pub start : (table store : List ℕ) → AtMostOne (λ (o : With Started). StartGives table store (o .result) (o .store))
   pub call : (setup : Setup) (store : List ℕ) (found : Record) (c : Call)
-      → AtMostOne (λ (o : With Judged). saidStep (o .result) (o .store) ≡ stepOf setup store found c)
-  pub frame-time : (last counter : ℕ) → AtMostOne (λ (r : Timed). saidTime r ≡ frameTimeOf last counter)
+      → AtMostOne (λ (o : With Judged). StepGives setup store found c (o .result) (o .store))
+  pub frame-time : (last counter : ℕ) → AtMostOne (TimeGives last counter)
