@@ -40,16 +40,19 @@ module _ (setup : Setup) (store : List ℕ) (found : Record) (call : Call) where
   refused-call-stays = stays (refusalOf setup store found call)
 
 -- A start: the record is all zero, the store stays.
-begins : (store : List ℕ) (ready : Table.CheckReply) → let o = startedOf (begin store ready) in Refusal (o .code) → (o .kept ≡ nothingSeen 0) × (o .store ≡ store)
+begins : (store : List ℕ) (ready : Table.CheckReply) → let o = startedOf (begin store ready) in
+    Refusal (o .code) → (o .kept ≡ nothingSeen 0) × (o .store ≡ store)
 begins store (Table.passed rows need) refused = absurd (omega arith)
 begins store (Table.refusedBy fault) refused = (refl, refl)
 
-pub refused-start-zero : (table store : List ℕ) → let o = startedOf (startOf table store) in Refusal (o .code) → (o .kept ≡ nothingSeen 0) × (o .store ≡ store)
+pub refused-start-zero : (table store : List ℕ) → let o = startedOf (startOf table store) in
+    Refusal (o .code) → (o .kept ≡ nothingSeen 0) × (o .store ≡ store)
 unfolding startOf
 refused-start-zero table store = begins store (readyOf table (length store))
 
 -- A table check: row count and need stay.
-pub refused-check-stays : (said : Table.CheckReply) (rows need : ℕ) → let o = checkedOf said rows need in Refusal (o .code) → (o .rows ≡ rows) × (o .need ≡ need)
+pub refused-check-stays : (said : Table.CheckReply) (rows need : ℕ) → let o = checkedOf said rows need in
+    Refusal (o .code) → (o .rows ≡ rows) × (o .need ≡ need)
 refused-check-stays (Table.passed counted words) rows need refused = absurd (omega arith)
 refused-check-stays (Table.refusedBy fault) rows need refused = (refl, refl)
 

@@ -1,4 +1,5 @@
 -- `board::run::call_at` meets its contract: each way out is one case of `callAt`. Assumes nothing.
+use mathlib.Core.List.{List}
 use Prim.Native.Nat.{ℕ}
 use lib.ListN.{List·getD-eq-default}
 use borrow.Author.Needs.{needs}
@@ -28,7 +29,9 @@ returns-2 : tie.Need-returns-2
 returns-2 c = rw (c .before .before .before .number-at .ensures, le-ltb _ _ (c .before .before .if1 .left))
 
 returns-3 : tie.Need-returns-3
-returns-3 c = rw (c .before .before .number-at .ensures, le-ltb _ _ (c .before .if1 .left), List·getD-eq-default {A = ℕ} (c .before .before .before .before .before .before .args .counters .now) 0 (c .if2 .left))
+returns-3 c =
+    let counters : List ℕ = c .before .before .before .before .before .before .args .counters .now in
+    rw (c .before .before .number-at .ensures, le-ltb _ _ (c .before .if1 .left), List·getD-eq-default counters 0 (c .if2 .left))
 
 pub call-at-spec : {M : Type 1} → statement M
 call-at-spec =
