@@ -42,11 +42,11 @@ use denote.Triple.Spec.{Meets, tripleOf}
 use denote.Triple.Walked.{says, Stays, stay-none, stay-none-slice, gave-slice, stay-ref, walkOf, goes-none, goes-none-slice, goes-gave-slice, goes-ref, Walks, ends-at, walked, walk-meets}
 use denote.Triple.Clauses.{Ended, Clauses, closing, ensured, lasts}
 use Rattle.monitor.specs.declared.record.Record.{Record}
-use Rattle.monitor.specs.Step.{Call, setupOf, stepOf}
+use Rattle.monitor.specs.Step.{Call, setupOf}
 use Rattle.monitor.proofs.record.Record as T
 use Rattle.monitor.proofs.record.Record.Laws as T′
 use Rattle.board.specs.declared.code.Coded.{Coded}
-use Rattle.board.specs.Left.{left, codedOf}
+use Rattle.board.specs.Left.{CallLeaves}
 use Rattle.board.proofs.code.Coded as J
 use Rattle.board.proofs.code.Coded.Laws as J′
 
@@ -96,7 +96,10 @@ module _ {M : Type 1} (𝓤 : URA M) (w : Width) (call-of : ℕ → ℕ → Call
       record {
         ghost = Unit {0};
         requires = λ _. emp 𝓤;
-        ensures = λ _ r e. fact 𝓤 (left (r .code) (r .record) (now (e .1 .0)) ≡ codedOf (stepOf (setupOf (now (a .0))) (now (a .1 .0)) (a .1 .1 .0) (call-of (a .1 .1 .1 .0) (a .1 .1 .1 .1 .0))));
+        ensures = λ _ r e.
+            fact 𝓤
+            (CallLeaves (setupOf (now (a .0))) (now (a .1 .0)) (a .1 .1 .0) (call-of (a .1 .1 .1 .0) (a .1 .1 .1 .1 .0))
+            (r .code) (r .record) (now (e .1 .0)));
       }
 
   abbrev pub kept-clauses : Clauses 𝓤 (kept-ended w)
@@ -104,7 +107,10 @@ module _ {M : Type 1} (𝓤 : URA M) (w : Width) (call-of : ℕ → ℕ → Call
       record {
         ghost = Unit {0};
         requires = λ _. emp 𝓤;
-        ensures = λ _ r e. fact 𝓤 (left r (now (e .1 .1 .0)) (now (e .1 .0)) ≡ codedOf (stepOf (setupOf (now (a .0))) (now (a .1 .0)) (now (a .1 .1 .0)) (call-of (a .1 .1 .1 .0) (a .1 .1 .1 .1 .0))));
+        ensures = λ _ r e.
+            fact 𝓤
+            (CallLeaves (setupOf (now (a .0))) (now (a .1 .0)) (now (a .1 .1 .0)) (call-of (a .1 .1 .1 .0) (a .1 .1 .1 .1 .0))
+            r (now (e .1 .1 .0)) (now (e .1 .0)));
       }
 
 -- The code.
@@ -203,7 +209,7 @@ module _ {M : Type 1} (𝓤 : URA M) (H : Heap 𝓤) (A : Atoms 𝓤) (W : Given
 
   -- what the callee says of its result and the last words of the store
   abbrev Said : Coded → List ℕ → Type 0
-  Said r zs = left (r .code) (r .record) zs ≡ codedOf (stepOf (setupOf (now table)) words h (call-of number mask))
+  Said r zs = CallLeaves (setupOf (now table)) words h (call-of number mask) (r .code) (r .record) zs
 
   -- the last values that the callee says
   abbrev Lasts : Type 0

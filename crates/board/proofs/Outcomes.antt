@@ -1,25 +1,14 @@
--- Any two outcomes that the contract of a public function allows are the same: its code, and every word, field and number that it was lent.
+-- Any two outcomes that the contract of a public function allows are the same: its code, and every word, field and number that it was lent. The
+-- contracts of `muk_version` and `code` are that the answer equals a value, so for them `one-value` of `meaning` is the law.
 use mathlib.Core.List.{List}
 use mathlib.Core.Path.{_≡_, ap}
 use Prim.Native.Nat.{ℕ}
-use Rattle.rules.specs.Table.{checkOf}
 use Rattle.meaning.proofs.OneValue.{one-value}
 use Rattle.monitor.specs.declared.record.Record.{Record}
-use Rattle.monitor.specs.declared.answer.Answer.{Answer}
-use Rattle.monitor.specs.Start.{startOf}
-use Rattle.monitor.specs.Step.{Setup, Call, said, stepOf, frameTimeOf}
-use Rattle.lines.specs.Frame.{readFrame}
-use Rattle.board.specs.Version.{version}
-use Rattle.board.specs.Code.{codeOf}
-use Rattle.board.specs.Left.{Left, left, startedOf, codedOf}
-use Rattle.board.specs.Numbers.{Taken, checked, checkedOf, Timed, timed, timedOf, LineGiven, line, lineLeft}
-use Rattle.board.specs.Run.{Ran, ran, runOf}
-
-pub version-one-outcome : (p q : ℕ) → p ≡ version → q ≡ version → p ≡ q
-version-one-outcome p q = one-value
-
-pub code-one-outcome : (answer : Answer) (p q : ℕ) → p ≡ codeOf (said answer) → q ≡ codeOf (said answer) → p ≡ q
-code-one-outcome answer p q = one-value
+use Rattle.monitor.specs.Step.{Setup, Call}
+use Rattle.board.specs.Left.{Left, left, StartLeaves, CallLeaves}
+use Rattle.board.specs.Numbers.{Taken, checked, CheckLeaves, Timed, timed, TimeLeaves, LineGiven, line, LineLeaves}
+use Rattle.board.specs.Run.{Ran, ran, RunLeaves}
 
 -- The parts of two that equal the same.
 one-left : {x : Left} (r r′ : ℕ) (k k′ : Record) (s s′ : List ℕ) → left r k s ≡ x → left r′ k′ s′ ≡ x → (r ≡ r′) × (k ≡ k′) × (s ≡ s′)
@@ -28,29 +17,27 @@ one-left r r′ k k′ s s′ p q =
     (ap (λ (o : Left). o .code) e, ap (λ (o : Left). o .kept) e, ap (λ (o : Left). o .store) e)
 
 pub start-one-outcome : (table store : List ℕ) (r r′ : ℕ) (k k′ : Record) (s s′ : List ℕ)
-    → left r k s ≡ startedOf (startOf table store) → left r′ k′ s′ ≡ startedOf (startOf table store) → (r ≡ r′) × (k ≡ k′) × (s ≡ s′)
+    → StartLeaves table store r k s → StartLeaves table store r′ k′ s′ → (r ≡ r′) × (k ≡ k′) × (s ≡ s′)
 start-one-outcome table store = one-left
 
 -- `muk_event` and `muk_frame`.
 pub call-one-outcome : (setup : Setup) (store : List ℕ) (found : Record) (call : Call) (r r′ : ℕ) (k k′ : Record) (s s′ : List ℕ)
-    → left r k s ≡ codedOf (stepOf setup store found call) → left r′ k′ s′ ≡ codedOf (stepOf setup store found call)
-    → (r ≡ r′) × (k ≡ k′) × (s ≡ s′)
+    → CallLeaves setup store found call r k s → CallLeaves setup store found call r′ k′ s′ → (r ≡ r′) × (k ≡ k′) × (s ≡ s′)
 call-one-outcome setup store found call = one-left
 
 pub check-one-outcome : (table : List ℕ) (rows need : ℕ) (r r′ n n′ w w′ : ℕ)
-    → checked r n w ≡ checkedOf (checkOf table) rows need → checked r′ n′ w′ ≡ checkedOf (checkOf table) rows need
-    → (r ≡ r′) × (n ≡ n′) × (w ≡ w′)
+    → CheckLeaves table rows need r n w → CheckLeaves table rows need r′ n′ w′ → (r ≡ r′) × (n ≡ n′) × (w ≡ w′)
 check-one-outcome table rows need r r′ n n′ w w′ p q =
     let e : checked r n w ≡ checked r′ n′ w′ = one-value p q in
     (ap (λ (o : Taken). o .code) e, ap (λ (o : Taken). o .rows) e, ap (λ (o : Taken). o .need) e)
 
 pub frame-time-one-outcome : (last counter time : ℕ) (r r′ t t′ : ℕ)
-    → timed r t ≡ timedOf (frameTimeOf last counter) time → timed r′ t′ ≡ timedOf (frameTimeOf last counter) time → (r ≡ r′) × (t ≡ t′)
+    → TimeLeaves last counter time r t → TimeLeaves last counter time r′ t′ → (r ≡ r′) × (t ≡ t′)
 frame-time-one-outcome last counter time r r′ t t′ p q =
     let e : timed r t ≡ timed r′ t′ = one-value p q in (ap (λ (o : Timed). o .code) e, ap (λ (o : Timed). o .time) e)
 
 pub read-frame-one-outcome : (text : List ℕ) (place counter mask : ℕ) (r r′ n n′ c c′ m m′ : ℕ)
-    → line r n c m ≡ lineLeft (readFrame text place) counter mask → line r′ n′ c′ m′ ≡ lineLeft (readFrame text place) counter mask
+    → LineLeaves text place counter mask r n c m → LineLeaves text place counter mask r′ n′ c′ m′
     → (r ≡ r′) × (n ≡ n′) × (c ≡ c′) × (m ≡ m′)
 read-frame-one-outcome text place counter mask r r′ n n′ c c′ m m′ p q =
     let e : line r n c m ≡ line r′ n′ c′ m′ = one-value p q in (
@@ -62,7 +49,7 @@ read-frame-one-outcome text place counter mask r r′ n n′ c c′ m m′ p q =
 
 -- `run_events` and `run_frames`: the record, the store and the codes.
 pub run-one-outcome : (setup : Setup) (found : Record) (store codes : List ℕ) (calls : List Call) (k k′ : Record) (s s′ a a′ : List ℕ)
-    → ran k s a ≡ runOf setup found store codes calls → ran k′ s′ a′ ≡ runOf setup found store codes calls
+    → RunLeaves setup found store codes calls k s a → RunLeaves setup found store codes calls k′ s′ a′
     → (k ≡ k′) × (s ≡ s′) × (a ≡ a′)
 run-one-outcome setup found store codes calls k k′ s s′ a a′ p q =
     let e : ran k s a ≡ ran k′ s′ a′ = one-value p q in

@@ -13,7 +13,7 @@ use borrow.Author.Tests.{ltb-true, ltb-false, lt-ltb, le-ltb}
 use Rattle.monitor.specs.declared.record.Record.{Record}
 use Rattle.monitor.specs.Step.{Setup, Call, event, frame, Outcome, stepOf}
 use Rattle.board.specs.Code.{codeOf}
-use Rattle.board.specs.Left.{Left, left, codedOf}
+use Rattle.board.specs.Left.{Left, codedOf, CallLeaves}
 use Rattle.board.specs.Run.{Ran, ran, runOf, callsOf}
 use Rattle.board.specs.Turns.{callAt, turnOf, turnsOf}
 
@@ -21,7 +21,7 @@ use Rattle.board.specs.Turns.{callAt, turnOf, turnsOf}
 pub one-more : (setup : Setup) (call : ℕ → Call) (start found : Ran) (place code : ℕ) (called : Call) (given : Record) (words codes : List ℕ)
     → found ≡ turnsOf setup call start place
     → called ≡ call place
-    → left code given words ≡ codedOf (stepOf setup (found .store) (found .left) called)
+    → CallLeaves setup (found .store) (found .left) called code given words
     → codes ≡ set (found .codes) place code
     → ran given words codes ≡ turnsOf setup call start (place + 1)
 unfolding turnsOf turnOf
@@ -45,7 +45,9 @@ pub calls-end : (kind : ℕ → ℕ → Call) (numbers masks : List ℕ) → len
 unfolding callsOf
 calls-end kind [] masks = omega arith
 calls-end kind (number ∷ numbers) [] = omega arith
-calls-end kind (number ∷ numbers) (mask ∷ masks) = let shorter : length (callsOf kind numbers masks) ≡ min (length numbers) (length masks) = calls-end kind numbers masks in omega arith
+calls-end kind (number ∷ numbers) (mask ∷ masks) =
+    let shorter : length (callsOf kind numbers masks) ≡ min (length numbers) (length masks) = calls-end kind numbers masks in
+    omega arith
 
 -- Where there is no place left, a run leaves what it found.
 no-place : (setup : Setup) (found : Record) (store : List ℕ) (calls : List Call) → runOf setup found store [] calls ≡ ran found store []
@@ -105,7 +107,8 @@ module _ (setup : Setup) (call : ℕ → Call) (found : Record) (store codes : L
 
 -- The least of the lengths is judged: then either the rows have no call left, or there is no place left.
 pub run-of-rows : (setup : Setup) (kind : ℕ → ℕ → Call) (numbers masks : List ℕ) (call : ℕ → Call) (found : Record) (store codes : List ℕ) (count : ℕ)
-    → ((i : ℕ) → i < length numbers → call i ≡ kind (getD numbers i 0) (getD masks i 0)) → count ≡ min (length numbers) (min (length masks) (length codes))
+    → ((i : ℕ) → i < length numbers → call i ≡ kind (getD numbers i 0) (getD masks i 0))
+    → count ≡ min (length numbers) (min (length masks) (length codes))
     → turnsOf setup call (ran found store codes) count ≡ runOf setup found store codes (callsOf kind numbers masks)
 run-of-rows setup kind numbers masks call found store codes count reads least =
     run-of-turns setup call found store codes (callsOf kind numbers masks) count each (omega arith) stops

@@ -1,9 +1,10 @@
 -- What a call that is lent the store and the record leaves: its code, every field of the record and every word of the store.
 use mathlib.Core.List.{List}
+use mathlib.Core.Path.{_≡_}
 use Prim.Native.Nat.{ℕ}
 use Rattle.monitor.specs.declared.record.Record.{Record}
-use Rattle.monitor.specs.Start.{Beginning}
-use Rattle.monitor.specs.Step.{Outcome}
+use Rattle.monitor.specs.Start.{Beginning, startOf}
+use Rattle.monitor.specs.Step.{Setup, Call, Outcome, stepOf}
 use Rattle.board.specs.Code.{codeOf, refusedCode}
 
 pub record Left : Type 0 where
@@ -18,6 +19,14 @@ left code kept store = record { code = code; kept = kept; store = store }
 abbrev pub startedOf : Beginning → Left
 startedOf b = left (refusedCode (b .refusal)) (b .given) (b .store)
 
+-- The code that a start answers, and the record and the words that it leaves, from the words that it found.
+abbrev pub StartLeaves : (table store : List ℕ) → (code : ℕ) (kept : Record) (after : List ℕ) → Type 0
+StartLeaves table store code kept after = left code kept after ≡ startedOf (startOf table store)
+
 -- An event or a frame.
 abbrev pub codedOf : Outcome → Left
 codedOf o = left (codeOf (o .reply)) (o .left) (o .store)
+
+-- The code that such a call answers, and the record and the words that it leaves, from those that it found.
+abbrev pub CallLeaves : Setup → (store : List ℕ) → Record → Call → (code : ℕ) (kept : Record) (after : List ℕ) → Type 0
+CallLeaves setup store found call code kept after = left code kept after ≡ codedOf (stepOf setup store found call)

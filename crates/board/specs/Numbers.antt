@@ -1,10 +1,13 @@
 -- What a call leaves that writes single numbers: its code, and each number. "A refused call leaves every .. single number as it was, but for the place in
 -- a text".
+use mathlib.Core.List.{List}
+use mathlib.Core.Path.{_≡_}
 use Prim.Native.Nat.{ℕ}
 use lib.ListN.{getD}
 use Rattle.rules.specs.Table as Table
-use Rattle.monitor.specs.Step.{TimeReply, at, notAt}
+use Rattle.monitor.specs.Step.{TimeReply, at, notAt, frameTimeOf}
 use Rattle.lines.specs.Read as Read
+use Rattle.lines.specs.Frame.{readFrame}
 use Rattle.board.specs.Code.{refusalCode}
 
 -- "refusals 1 to 3, or 0, and the row count and the need in words are written".
@@ -20,6 +23,10 @@ abbrev pub checkedOf : Table.CheckReply → (rows need : ℕ) → Taken
 checkedOf (Table.passed counted words) rows need = checked 0 counted words
 checkedOf (Table.refusedBy fault) rows need = checked (refusalCode fault) rows need
 
+-- The code that a table check answers, and the numbers that then stand where rows and need stood.
+abbrev pub CheckLeaves : (table : List ℕ) (rows need : ℕ) → (code rowsAfter needAfter : ℕ) → Type 0
+CheckLeaves table rows need code rowsAfter needAfter = checked code rowsAfter needAfter ≡ checkedOf (Table.checkOf table) rows need
+
 -- "refusal 6 ..; otherwise 0, and the time is written".
 pub record Timed : Type 0 where
   pub code : ℕ
@@ -31,6 +38,10 @@ timed code time = record { code = code; time = time }
 abbrev pub timedOf : TimeReply → (time : ℕ) → Timed
 timedOf (at shown) time = timed 0 shown
 timedOf (notAt fault) time = timed (refusalCode fault) time
+
+-- The code that a frame's time is answered by, and the number that then stands where time stood.
+abbrev pub TimeLeaves : (last counter time : ℕ) → (code timeAfter : ℕ) → Type 0
+TimeLeaves last counter time code timeAfter = timed code timeAfter ≡ timedOf (frameTimeOf last counter) time
 
 -- "MUK_END 0", "MUK_FRAME 1": "After a good line the answer is MUK_FRAME, counter and mask are written". The place is the next one, whatever was read.
 pub record LineGiven : Type 0 where
@@ -49,3 +60,8 @@ lineBy (Read.badLine fault) next counter mask = line (refusalCode fault) next co
 
 abbrev pub lineLeft : Read.Read → (counter mask : ℕ) → LineGiven
 lineLeft read counter mask = lineBy (read .said) (read .next) counter mask
+
+-- The code that the line at a place is answered by, and the numbers that then stand where place, counter and mask stood.
+abbrev pub LineLeaves : (text : List ℕ) (place counter mask : ℕ) → (code placeAfter counterAfter maskAfter : ℕ) → Type 0
+LineLeaves text place counter mask code placeAfter counterAfter maskAfter =
+    line code placeAfter counterAfter maskAfter ≡ lineLeft (readFrame text place) counter mask

@@ -1,5 +1,6 @@
 -- A run: calls one after the other (document 01, "The main loop keeps one record that stays where it is and is changed there by each event").
 use mathlib.Core.List.{List, [], _∷_}
+use mathlib.Core.Path.{_≡_}
 use Prim.Native.Nat.{ℕ}
 use Rattle.monitor.specs.declared.record.Record.{Record}
 use Rattle.monitor.specs.Step.{Setup, Call, Outcome, stepOf}
@@ -31,3 +32,7 @@ runOf setup found store [] (call ∷ calls) = ran found store []
 runOf setup found store (code ∷ codes) (call ∷ calls) =
     let judged : Outcome = stepOf setup store found call in
     codeThen (codeOf (judged .reply)) (runOf setup (judged .left) (judged .store) codes calls)
+
+-- The record, the words and the row of codes that a run of these calls leaves, from those that it found.
+abbrev pub RunLeaves : Setup → Record → (store codes : List ℕ) → List Call → (kept : Record) (after codesAfter : List ℕ) → Type 0
+RunLeaves setup found store codes calls kept after codesAfter = ran kept after codesAfter ≡ runOf setup found store codes calls

@@ -1,9 +1,11 @@
 -- The loop of a run, turn by turn. What it leaves after all turns is the run of `Run`, by `run-of-turns`.
 use mathlib.Core.Bool.{cond}
 use mathlib.Core.List.{List}
+use mathlib.Core.Path.{_≡_}
 use Prim.Native.Nat.{ℕ, zero, suc}
 use lib.Dec.{ltb}
 use lib.ListN.{length, getD, set}
+use Rattle.monitor.specs.declared.record.Record.{Record}
 use Rattle.monitor.specs.Step.{Setup, Call, event, frame, Outcome, stepOf}
 use Rattle.board.specs.Code.{codeOf}
 use Rattle.board.specs.Run.{Ran, ran}
@@ -22,3 +24,8 @@ turnOf setup place call found =
 unfoldable pub turnsOf : Setup → (ℕ → Call) → Ran → ℕ → Ran
 turnsOf setup call start zero = start
 turnsOf setup call start (suc n) = turnOf setup n (call n) (turnsOf setup call start n)
+
+-- The record, the words and the row of codes that so many turns leave, from those that they found.
+abbrev pub TurnsLeave : Setup → (ℕ → Call) → Record → (store codes : List ℕ) → (count : ℕ) → (kept : Record) (after codesAfter : List ℕ) → Type 0
+TurnsLeave setup call found store codes count kept after codesAfter =
+    ran kept after codesAfter ≡ turnsOf setup call (ran found store codes) count

@@ -4,9 +4,8 @@ use crate::code::Coded;
 use crate::event::event_coded;
 use crate::frame::frame_coded;
 use monitor::record::Record;
-ghost use mathlib.Core.Path.{_≡_};
-ghost use Rattle.monitor.specs.Step.{setupOf, stepOf};
-ghost use Rattle.board.specs.Left.{left, codedOf};
+ghost use Rattle.monitor.specs.Step.{setupOf};
+ghost use Rattle.board.specs.Left.{CallLeaves};
 ghost use Rattle.board.specs.Call.{callOf};
 
 // An event has its time; a frame has the board's counter.
@@ -16,7 +15,8 @@ pub enum Call {
 }
 
 pub(crate) fn judge(table: &[u32], store: &mut [u64], found: Record, call: Call) -> Coded
-    ensures { λ r. ⌜ left (r .code) (r .record) (now (store .exit)) ≡ codedOf (stepOf (setupOf (now (table .entry))) (now (store .entry)) found (callOf call)) ⌝ }
+    ensures { λ r. ⌜ CallLeaves (setupOf (now (table .entry))) (now (store .entry)) found (callOf call)
+        (r .code) (r .record) (now (store .exit)) ⌝ }
 {
     match call {
         Call::Event { time, mask } => event_coded(table, store, found, time, mask),

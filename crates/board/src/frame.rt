@@ -4,10 +4,9 @@ use crate::code::Coded;
 use crate::code::code;
 use monitor::record::Record;
 use monitor::step;
-ghost use mathlib.Core.Path.{_≡_};
 ghost use Rattle.monitor.specs.Step as Step;
-ghost use Rattle.monitor.specs.Step.{setupOf, stepOf};
-ghost use Rattle.board.specs.Left.{left, codedOf};
+ghost use Rattle.monitor.specs.Step.{setupOf};
+ghost use Rattle.board.specs.Left.{CallLeaves};
 
 // What an event at that time answers.
 #[no_mangle]
@@ -18,7 +17,8 @@ pub extern "C" fn muk_frame(
     counter: u16,
     mask: u32,
 ) -> u32
-    ensures { λ r. ⌜ left r (now (kept .exit)) (now (store .exit)) ≡ codedOf (stepOf (setupOf (now (table .entry))) (now (store .entry)) (now (kept .entry)) (Step.frame counter mask)) ⌝ }
+    ensures { λ r. ⌜ CallLeaves (setupOf (now (table .entry))) (now (store .entry)) (now (kept .entry)) (Step.frame counter mask)
+        r (now (kept .exit)) (now (store .exit)) ⌝ }
 {
     let judged = frame_coded(table, store, *kept, counter, mask);
     *kept = judged.record;
@@ -33,7 +33,8 @@ pub(crate) fn frame_coded(
     counter: u16,
     mask: u32,
 ) -> Coded
-    ensures { λ r. ⌜ left (r .code) (r .record) (now (store .exit)) ≡ codedOf (stepOf (setupOf (now (table .entry))) (now (store .entry)) found (Step.frame counter mask)) ⌝ }
+    ensures { λ r. ⌜ CallLeaves (setupOf (now (table .entry))) (now (store .entry)) found (Step.frame counter mask)
+        (r .code) (r .record) (now (store .exit)) ⌝ }
 {
     let judged = step::frame(table, store, found, counter, mask);
     let answer = judged.answer;

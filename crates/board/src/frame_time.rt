@@ -3,14 +3,12 @@
 use crate::code::refusal_code;
 use monitor::answer::Timed;
 use monitor::frame_time;
-ghost use mathlib.Core.Path.{_≡_};
-ghost use Rattle.monitor.specs.Step.{frameTimeOf};
-ghost use Rattle.board.specs.Numbers.{timed, timedOf};
+ghost use Rattle.board.specs.Numbers.{TimeLeaves};
 
 // Refusal 6 where last is over the limit; or 0, and the time of a frame after the time last is written.
 #[no_mangle]
 pub extern "C" fn muk_frame_time(last: u64, counter: u16, time: &mut u64) -> u32
-    ensures { λ r. ⌜ timed r (now (time .exit)) ≡ timedOf (frameTimeOf last counter) (now (time .entry)) ⌝ }
+    ensures { λ r. ⌜ TimeLeaves last counter (now (time .entry)) r (now (time .exit)) ⌝ }
 {
     let found = frame_time::frame_time(last, counter);
     match found {

@@ -3,9 +3,7 @@
 use crate::code::refusal_code;
 use lines::frame;
 use lines::frame::FrameFound;
-ghost use mathlib.Core.Path.{_≡_};
-ghost use Rattle.lines.specs.Frame.{readFrame};
-ghost use Rattle.board.specs.Numbers.{line, lineLeft};
+ghost use Rattle.board.specs.Numbers.{LineLeaves};
 
 // The end, a frame, whose counter and mask are written, or refusal 8 or 9. The place becomes the next one. Any place may be asked for.
 #[no_mangle]
@@ -15,7 +13,8 @@ pub extern "C" fn muk_read_frame(
     counter: &mut u16,
     mask: &mut u32,
 ) -> u32
-    ensures { λ r. ⌜ line r (now (place .exit)) (now (counter .exit)) (now (mask .exit)) ≡ lineLeft (readFrame (now (text .entry)) (now (place .entry))) (now (counter .entry)) (now (mask .entry)) ⌝ }
+    ensures { λ r. ⌜ LineLeaves (now (text .entry)) (now (place .entry)) (now (counter .entry)) (now (mask .entry))
+        r (now (place .exit)) (now (counter .exit)) (now (mask .exit)) ⌝ }
 {
     let read = frame::read_frame(text, *place as usize);
     *place = read.next as u64;

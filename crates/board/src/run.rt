@@ -10,8 +10,8 @@ ghost use lib.ListN.{set};
 ghost use Rattle.monitor.specs.Step as Step;
 ghost use Rattle.monitor.specs.Step.{setupOf};
 ghost use Rattle.board.specs.Call.{callOf};
-ghost use Rattle.board.specs.Run.{runOf, ran, callsOf};
-ghost use Rattle.board.specs.Turns.{callAt, turnsOf};
+ghost use Rattle.board.specs.Run.{callsOf, RunLeaves};
+ghost use Rattle.board.specs.Turns.{callAt, TurnsLeave};
 
 // An event for each time and mask, as long as there is room for its answer's code. Gives the record left.
 pub fn run_events(
@@ -22,7 +22,8 @@ pub fn run_events(
     masks: &[u32],
     answers: &mut [u32],
 ) -> Record
-    ensures { λ r. ⌜ ran r (now (store .exit)) (now (answers .exit)) ≡ runOf (setupOf (now (table .entry))) found (now (store .entry)) (now (answers .entry)) (callsOf Step.event (now (times .entry)) (now (masks .entry))) ⌝ }
+    ensures { λ r. ⌜ RunLeaves (setupOf (now (table .entry))) found (now (store .entry)) (now (answers .entry))
+        (callsOf Step.event (now (times .entry)) (now (masks .entry))) r (now (store .exit)) (now (answers .exit)) ⌝ }
 {
     let no_counters: [u16; 0] = [];
     let count = least(times.len(), least(masks.len(), answers.len()));
@@ -47,7 +48,8 @@ pub fn run_frames(
     masks: &[u32],
     answers: &mut [u32],
 ) -> Record
-    ensures { λ r. ⌜ ran r (now (store .exit)) (now (answers .exit)) ≡ runOf (setupOf (now (table .entry))) found (now (store .entry)) (now (answers .entry)) (callsOf Step.frame (now (counters .entry)) (now (masks .entry))) ⌝ }
+    ensures { λ r. ⌜ RunLeaves (setupOf (now (table .entry))) found (now (store .entry)) (now (answers .entry))
+        (callsOf Step.frame (now (counters .entry)) (now (masks .entry))) r (now (store .exit)) (now (answers .exit)) ⌝ }
 {
     let no_times: [u64; 0] = [];
     let count = least(counters.len(), least(masks.len(), answers.len()));
@@ -74,7 +76,8 @@ fn run_calls(
     answers: &mut [u32],
     count: usize,
 ) -> Record
-    ensures { λ r. ⌜ ran r (now (store .exit)) (now (answers .exit)) ≡ turnsOf (setupOf (now (table .entry))) (callAt (now (times .entry)) (now (counters .entry)) (now (masks .entry))) (ran found (now (store .entry)) (now (answers .entry))) count ⌝ }
+    ensures { λ r. ⌜ TurnsLeave (setupOf (now (table .entry))) (callAt (now (times .entry)) (now (counters .entry)) (now (masks .entry)))
+        found (now (store .entry)) (now (answers .entry)) count r (now (store .exit)) (now (answers .exit)) ⌝ }
 {
     let mut kept = found;
     let mut place: usize = 0;

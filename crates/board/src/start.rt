@@ -5,14 +5,12 @@ use crate::code::refusal_code;
 use monitor::answer::StartAnswer;
 use monitor::record::Record;
 use monitor::start;
-ghost use mathlib.Core.Path.{_≡_};
-ghost use Rattle.monitor.specs.Start.{startOf};
-ghost use Rattle.board.specs.Left.{left, startedOf};
+ghost use Rattle.board.specs.Left.{StartLeaves};
 
 // Refusals 1 to 4 and an all-zero record; or a record that has seen no event, and zeros in the words of the need.
 #[no_mangle]
 pub extern "C" fn muk_start(table: &[u32], store: &mut [u64], kept: &mut Record) -> u32
-    ensures { λ r. ⌜ left r (now (kept .exit)) (now (store .exit)) ≡ startedOf (startOf (now (table .entry)) (now (store .entry))) ⌝ }
+    ensures { λ r. ⌜ StartLeaves (now (table .entry)) (now (store .entry)) r (now (kept .exit)) (now (store .exit)) ⌝ }
 {
     let started = start_coded(table, store);
     *kept = started.record;
@@ -21,7 +19,7 @@ pub extern "C" fn muk_start(table: &[u32], store: &mut [u64], kept: &mut Record)
 
 // The same with the record handed back.
 fn start_coded(table: &[u32], store: &mut [u64]) -> Coded
-    ensures { λ r. ⌜ left (r .code) (r .record) (now (store .exit)) ≡ startedOf (startOf (now (table .entry)) (now (store .entry))) ⌝ }
+    ensures { λ r. ⌜ StartLeaves (now (table .entry)) (now (store .entry)) (r .code) (r .record) (now (store .exit)) ⌝ }
 {
     let started = start::start(table, store);
     let record = started.record;

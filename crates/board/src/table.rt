@@ -3,14 +3,12 @@
 use crate::code::refusal_code;
 use rules::table;
 use rules::table::Checked;
-ghost use mathlib.Core.Path.{_≡_};
-ghost use Rattle.rules.specs.Table.{checkOf};
-ghost use Rattle.board.specs.Numbers.{checked, checkedOf};
+ghost use Rattle.board.specs.Numbers.{CheckLeaves};
 
 // Refusals 1 to 3; or 0, and the row count and the need are written.
 #[no_mangle]
 pub extern "C" fn muk_check(table: &[u32], rows: &mut u32, need: &mut u64) -> u32
-    ensures { λ r. ⌜ checked r (now (rows .exit)) (now (need .exit)) ≡ checkedOf (checkOf (now (table .entry))) (now (rows .entry)) (now (need .entry)) ⌝ }
+    ensures { λ r. ⌜ CheckLeaves (now (table .entry)) (now (rows .entry)) (now (need .entry)) r (now (rows .exit)) (now (need .exit)) ⌝ }
 {
     let checked = table::check(table);
     match checked {

@@ -6,8 +6,7 @@ use native.Mathlib.Omega.{arith}
 use borrow.Author.Needs.{needs}
 use lib.ListN.{length, length-set}
 use Rattle.monitor.specs.Step.{setupOf}
-use Rattle.board.specs.Run.{ran}
-use Rattle.board.specs.Turns.{callAt, turnsOf}
+use Rattle.board.specs.Turns.{callAt, turnsOf, TurnsLeave}
 use Rattle.board.proofs.RunLaws.{one-more}
 use Rattle.board.proofs.run.run_calls.Statement.{statement}
 use Rattle.board.proofs.run.run_calls.Tie as tie
@@ -17,7 +16,7 @@ Inv-loop table store₀ times counters masks answers₀ count kept₀ place₀ s
     (place ≤ count)
     × (length store ≡ length store₀)
     × (length answers ≡ length answers₀)
-    × (ran kept store answers ≡ turnsOf (setupOf table) (callAt times counters masks) (ran kept₀ store₀ answers₀) place)
+    × TurnsLeave (setupOf table) (callAt times counters masks) kept₀ store₀ answers₀ place kept store answers
 
 abbrev μ-loop : tie.MeasureT-loop
 μ-loop table store₀ times counters masks answers₀ count kept₀ place₀ store answers kept place = count - place

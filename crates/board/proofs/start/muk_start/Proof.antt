@@ -44,11 +44,10 @@ use denote.Triple.Table.{entered, cited}
 use denote.Triple.Walked.{says, Stays, stay-none-slice, gave-slice, stay-ref, walkOf, goes-none-slice, goes-gave-slice, goes-ref, Walks, ends-at, walked, walk-meets}
 use denote.Triple.Clauses.{ensured, lasts}
 use Rattle.monitor.specs.declared.record.Record.{Record}
-use Rattle.monitor.specs.Start.{startOf}
 use Rattle.monitor.proofs.record.Record as T
 use Rattle.monitor.proofs.record.Record.Laws as T′
 use Rattle.board.specs.declared.code.Coded.{Coded}
-use Rattle.board.specs.Left.{left, startedOf}
+use Rattle.board.specs.Left.{StartLeaves}
 use Rattle.board.proofs.code.Coded as J
 use Rattle.board.proofs.code.Coded.Laws as J′
 use Rattle.board.proofs.start.start_coded as coded
@@ -117,7 +116,7 @@ module _ {M : Type 1} (𝓤 : URA M) (H : Heap 𝓤) (A : Atoms 𝓤) (W : Given
 
   -- what the callee says of its result and the last words of the store
   abbrev Said : Coded → List ℕ → Type 0
-  Said r zs = left (r .code) (r .record) zs ≡ startedOf (startOf (now table) words)
+  Said r zs = StartLeaves (now table) words (r .code) (r .record) zs
 
   -- the last values that the callee says
   abbrev Lasts : Type 0
