@@ -8,8 +8,8 @@ use Rattle.promises.specs.Stream.{State, call, next, after, started}
 use Rattle.promises.specs.LineTimes.{replies}
 use Rattle.promises.proofs.StreamLaws.{after-append}
 use Rattle.board.specs.Code.{codeOf}
-use Rattle.board.specs.Left.{Left, codedOf}
-use Rattle.board_promises.specs.Made.{StartMade, CallMade, Made, none, more}
+use Rattle.board.specs.Left.{Left, codedOf, StartLeaves, CallLeaves}
+use Rattle.board_promises.specs.Made.{Made, none, more}
 use Rattle.board_promises.specs.Calls.{standing, AsStream, CallsAreTheStream}
 
 replies-more : (table : List ℕ) (s : State) (calls : List Call) (c : Call)
@@ -27,7 +27,7 @@ after-more table s calls c = after-append table s calls (c ∷ [])
 one-made : (table : List ℕ) (s : State) (calls : List Call) (codes : List ℕ) (between : Record) (stand : List ℕ)
     (c : Call) (code : ℕ) (kept : Record) (words : List ℕ)
     → AsStream table s calls codes between stand
-    → CallMade table stand between c code kept words
+    → CallLeaves (setupOf table) stand between c code kept words
     → AsStream table s (calls ++ (c ∷ [])) (codes ++ (code ∷ [])) kept words
 one-made table s calls codes between stand c code kept words so-far made =
     let here : State = after table s calls in
@@ -55,7 +55,7 @@ from-any table store found _ _ _ _ (more {calls = calls} {codes = codes} {betwee
 
 -- A start that answered 0 left what the stream begins with.
 from-start : (table lent store : List ℕ) (found : Record) (calls : List Call) (codes : List ℕ) (kept : Record) (words : List ℕ)
-    → StartMade table lent 0 found store
+    → StartLeaves table lent 0 found store
     → Made table store found calls codes kept words
     → AsStream table (started table lent) calls codes kept words
 from-start table lent store found calls codes kept words start made =
@@ -66,11 +66,12 @@ from-start table lent store found calls codes kept words start made =
 -- Before calls that are made, another one.
 made-before : (table store : List ℕ) (found : Record) (c : Call) (code : ℕ) (between : Record) (stand : List ℕ)
     (calls : List Call) (codes : List ℕ) (kept : Record) (words : List ℕ)
-    → CallMade table store found c code between stand
+    → CallLeaves (setupOf table) store found c code between stand
     → Made table stand between calls codes kept words
     → Made table store found (c ∷ calls) (code ∷ codes) kept words
 made-before table store found c code between stand _ _ _ _ first none = more none c code between stand first
-made-before table store found c code between stand _ _ _ _ first (more {calls = calls} {codes = codes} {between = middle} {stand = held} made d answer kept words last) =
+made-before table store found c code between stand _ _ _ _ first
+    (more {calls = calls} {codes = codes} {between = middle} {stand = held} made d answer kept words last) =
     more (made-before table store found c code between stand calls codes middle held first made) d answer kept words last
 
 all-made : (table store : List ℕ) (found : Record) (calls : List Call)

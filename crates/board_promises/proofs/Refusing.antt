@@ -13,13 +13,13 @@ use Rattle.promises.specs.Conditions.{RecordRight}
 use Rattle.promises.specs.Refusing.{CallRefused, seven}
 use Rattle.promises.proofs.Refusing.{refused-exactly}
 use Rattle.board.specs.Code.{verdictRoom, codeOf, refusalCode}
-use Rattle.board.specs.Left.{Left}
+use Rattle.board.specs.Left.{Left, CallLeaves}
 use Rattle.board.proofs.RefusedLaws.{refused-call-stays}
-use Rattle.board_promises.specs.Made.{CallMade}
 use Rattle.board_promises.specs.Refusing.{RefusedCallLeavesAll, Damaged, DamagedIsRefused}
 use Rattle.board_promises.proofs.NumberLaws.{call-above}
 
-module _ (table store : List ℕ) (found : Record) (c : Call) (code : ℕ) (kept : Record) (words : List ℕ) (made : CallMade table store found c code kept words) where
+module _ (table store : List ℕ) (found : Record) (c : Call) (code : ℕ) (kept : Record) (words : List ℕ)
+    (made : CallLeaves (setupOf table) store found c code kept words) where
   abbrev answer : Reply
   answer = stepOf (setupOf table) store found c .reply
 

@@ -15,12 +15,11 @@ use Rattle.promises.specs.Conditions.{Ready}
 use Rattle.promises.specs.Refusing.{StartRefused}
 use Rattle.promises.proofs.TableRefusals.{start-refuses, start-passes, start-decided}
 use Rattle.board.specs.Code.{verdictRoom, refusalCode}
-use Rattle.board.specs.Left.{Left}
-use Rattle.board_promises.specs.Made.{StartMade}
+use Rattle.board.specs.Left.{Left, StartLeaves}
 use Rattle.board_promises.specs.Starting.{StartTold, StartIsTheStreams}
 use Rattle.board_promises.proofs.NumberLaws.{start-above}
 
-module _ (table store : List ℕ) (code : ℕ) (kept : Record) (words : List ℕ) (made : StartMade table store code kept words) where
+module _ (table store : List ℕ) (code : ℕ) (kept : Record) (words : List ℕ) (made : StartLeaves table store code kept words) where
   ready-told : Ready table (length store) → StartTold table store code kept words
   unfolding startOf
   ready-told ready =

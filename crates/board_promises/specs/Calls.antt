@@ -8,7 +8,8 @@ use Rattle.monitor.specs.Step.{Call}
 use Rattle.promises.specs.Stream.{State, after, started}
 use Rattle.promises.specs.LineTimes.{replies}
 use Rattle.board.specs.Code.{codeOf}
-use Rattle.board_promises.specs.Made.{StartMade, Made}
+use Rattle.board.specs.Left.{StartLeaves}
+use Rattle.board_promises.specs.Made.{Made}
 
 abbrev pub standing : List ℕ → Record → State
 standing store found = record { found = found; store = store }
@@ -22,7 +23,7 @@ pub record AsStream (table : List ℕ) (s : State) (calls : List Call) (codes : 
 -- From a start that answered 0, and from any record and words at all. And every list of calls can be made so.
 pub record CallsAreTheStream : Type 0 where
   pub from-start : (table lent store : List ℕ) (found : Record) (calls : List Call) (codes : List ℕ) (kept : Record) (words : List ℕ)
-      → StartMade table lent 0 found store
+      → StartLeaves table lent 0 found store
       → Made table store found calls codes kept words
       → AsStream table (started table lent) calls codes kept words
   pub from-any : (table store : List ℕ) (found : Record) (calls : List Call) (codes : List ℕ) (kept : Record) (words : List ℕ)

@@ -9,11 +9,12 @@ use Rattle.refusals.specs.Refusals.{refused, numberOf}
 use Rattle.refusals.specs.declared.refusal.Refusal.the-variants.{Earlier, Late}
 use Rattle.times.specs.Times.{timeLimit}
 use Rattle.monitor.specs.declared.record.Record.{Record}
-use Rattle.monitor.specs.Step.{Call, timeOf}
+use Rattle.monitor.specs.Step.{setupOf, Call, timeOf}
 use Rattle.promises.specs.Stream.{Keeps, clock, longer}
 use Rattle.promises.specs.Verdicts.{judgedFormula}
 use Rattle.board.specs.Code.{verdictRoom, refusalCode}
-use Rattle.board_promises.specs.Made.{StartMade, CallMade, Made}
+use Rattle.board.specs.Left.{StartLeaves, CallLeaves}
+use Rattle.board_promises.specs.Made.{Made}
 
 pub record CodeMeant (table : List ℕ) (calls : List Call) (c : Call) (code : ℕ) : Type 0 where
   pub judged : (code < verdictRoom) ↔ Keeps (clock calls) c
@@ -27,7 +28,7 @@ pub record CodeMeant (table : List ℕ) (calls : List Call) (c : Call) (code : �
 abbrev pub CodesTellTheMeaning : Type 0
 CodesTellTheMeaning = (table lent store : List ℕ) (found : Record) (calls : List Call) (codes : List ℕ) (between : Record) (stand : List ℕ)
     (c : Call) (code : ℕ) (kept : Record) (words : List ℕ)
-    → StartMade table lent 0 found store
+    → StartLeaves table lent 0 found store
     → Made table store found calls codes between stand
-    → CallMade table stand between c code kept words
+    → CallLeaves (setupOf table) stand between c code kept words
     → CodeMeant table calls c code

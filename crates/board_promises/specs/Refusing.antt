@@ -13,7 +13,7 @@ use Rattle.monitor.specs.Step.{setupOf, Call}
 use Rattle.promises.specs.Conditions.{Ready}
 use Rattle.promises.specs.Refusing.{CallRefused}
 use Rattle.board.specs.Code.{verdictRoom, refusalCode}
-use Rattle.board_promises.specs.Made.{CallMade}
+use Rattle.board.specs.Left.{CallLeaves}
 
 -- A code of 65,536 or more is that of the refusal which the table of refusals names, and no other call has such a code.
 pub record CallTold (table store : List ℕ) (found : Record) (c : Call) (code : ℕ) (kept : Record) (words : List ℕ) : Type 0 where
@@ -23,7 +23,7 @@ pub record CallTold (table store : List ℕ) (found : Record) (c : Call) (code :
 
 abbrev pub RefusedCallLeavesAll : Type 0
 RefusedCallLeavesAll = (table store : List ℕ) (found : Record) (c : Call) (code : ℕ) (kept : Record) (words : List ℕ)
-    → CallMade table store found c code kept words
+    → CallLeaves (setupOf table) store found c code kept words
     → CallTold table store found c code kept words
 
 -- A record that C damaged: a byte other than 0 or 1 where it says whether an event was seen, or where a truth stands.
@@ -35,5 +35,5 @@ abbrev pub DamagedIsRefused : Type 0
 DamagedIsRefused = (table store : List ℕ) (found : Record) (c : Call) (code : ℕ) (kept : Record) (words : List ℕ)
     → Ready table (length store)
     → Damaged found
-    → CallMade table store found c code kept words
+    → CallLeaves (setupOf table) store found c code kept words
     → (code ≡ refusalCode (refused Unsound)) × (kept ≡ found) × (words ≡ store)

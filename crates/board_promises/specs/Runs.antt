@@ -9,7 +9,7 @@ use Rattle.monitor.specs.Step.{setupOf, Call}
 use Rattle.promises.specs.Stream.{State, after}
 use Rattle.promises.specs.LineTimes.{replies}
 use Rattle.board.specs.Code.{codeOf}
-use Rattle.board.specs.Run.{callsOf, ran, runOf}
+use Rattle.board.specs.Run.{callsOf, RunLeaves}
 use Rattle.board_promises.specs.Calls.{standing}
 
 -- How many calls are made.
@@ -30,5 +30,5 @@ pub record RunAsStream (table : List ℕ) (s : State) (kind : ℕ → ℕ → Ca
 abbrev pub RunsAreTheStream : Type 0
 RunsAreTheStream = (table store : List ℕ) (found : Record) (kind : ℕ → ℕ → Call) (numbers masks codes : List ℕ)
     (kept : Record) (words answers : List ℕ)
-    → ran kept words answers ≡ runOf (setupOf table) found store codes (callsOf kind numbers masks)
+    → RunLeaves (setupOf table) found store codes (callsOf kind numbers masks) kept words answers
     → RunAsStream table (standing store found) kind numbers masks codes kept words answers

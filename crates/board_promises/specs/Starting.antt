@@ -13,7 +13,7 @@ use Rattle.monitor.specs.Record.{nothingSeen}
 use Rattle.promises.specs.Refusing.{StartRefused}
 use Rattle.promises.specs.Stream.{Starts, started}
 use Rattle.board.specs.Code.{refusalCode}
-use Rattle.board_promises.specs.Made.{StartMade}
+use Rattle.board.specs.Left.{StartLeaves}
 
 pub record StartTold (table store : List ℕ) (code : ℕ) (kept : Record) (words : List ℕ) : Type 0 where
   pub good : (code ≡ 0) ↔ Starts table store
@@ -26,5 +26,5 @@ pub record StartTold (table store : List ℕ) (code : ℕ) (kept : Record) (word
 
 abbrev pub StartIsTheStreams : Type 0
 StartIsTheStreams = (table store : List ℕ) (code : ℕ) (kept : Record) (words : List ℕ)
-    → StartMade table store code kept words
+    → StartLeaves table store code kept words
     → StartTold table store code kept words
