@@ -1,8 +1,8 @@
 #!/usr/bin/env bash
 # The library as firmware links it, on each processor that tools/build knows. On this machine's own: include/muktrashi.h as C++ and C11; the comparison
-# with the two references of tests/reference/; and three C programs with the address and undefined-behaviour sanitizers: tests/header.c,
-# examples/board.c, and tests/processors/replay.c, which makes some of the comparison's calls again. The three also run on emulators of the other
-# processors. A part that cannot run is named, and not counted.
+# with the two references of tests/board/reference/; and three C programs with the address and undefined-behaviour sanitizers: tests/board/header.c,
+# examples/board.c, and tests/board/processors/replay.c, which makes some of the comparison's calls again. The three also run on emulators of the
+# other processors. A part that cannot run is named, and not counted.
 set -u
 cd "$(dirname "$0")/.." || exit 2
 work=$(mktemp -d) || exit 2
@@ -18,7 +18,7 @@ fail() {
     failures=$((failures + 1))
 }
 
-. tests/processors/processors.sh
+. tests/board/processors/processors.sh
 
 command -v rt >/dev/null 2>&1 || {
     say "the command 'rt' of the Rattle kit is not on the PATH; install the kit that .ci/kit names, then run this again"
@@ -69,12 +69,12 @@ $difference"
 programs() {
     local processor=$1
     shift
-    writes "$processor" tests/header.c /dev/null "$@"
+    writes "$processor" tests/board/header.c /dev/null "$@"
     writes "$processor" examples/board.c examples/board.out "$@"
     if [ -s "$work/replayed" ]; then
-        writes "$processor" tests/processors/replay.c "$work/replayed" "$@"
+        writes "$processor" tests/board/processors/replay.c "$work/replayed" "$@"
     else
-        say "warning: NOT RUN: tests/processors/replay.c on $processor; there are no calls of the comparison"
+        say "warning: NOT RUN: tests/board/processors/replay.c on $processor; there are no calls of the comparison"
     fi
 }
 
@@ -95,19 +95,19 @@ fi
 parts=$((parts + 1))
 if needs there_is_rust "the comparison with the references" rustc; then
     ran=$((ran + 1))
-    if "$rust" --edition 2021 -O -D warnings -L "target/board/$machine" -l static=muktrashi tests/reference/main.rs -o "$work/compare"; then
+    if "$rust" --edition 2021 -O -D warnings -L "target/board/$machine" -l static=muktrashi tests/board/reference/main.rs -o "$work/compare"; then
         "$work/compare" "$work/calls" >"$work/compared" || fail "the library and the references differ"
         sed -n 's/ written$/ as the references have them/p' "$work/compared" >"$work/replayed"
         cat "$work/compared"
     else
-        fail "tests/reference is not compiled"
+        fail "tests/board/reference is not compiled"
     fi
 fi
 
 for processor in "$machine" "$other" "${boards[@]}" wasm32; do
     parts=$((parts + 3))
     for_processor "$processor"
-    needs there_is_c "tests/header.c, examples/board.c and tests/processors/replay.c on $processor" "${packages[@]}" || continue
+    needs there_is_c "tests/board/header.c, examples/board.c and tests/board/processors/replay.c on $processor" "${packages[@]}" || continue
     tools/build "$processor" || {
         fail "the library cannot be built for $processor ('tools/build $processor')"
         continue

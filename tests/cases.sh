@@ -1,6 +1,6 @@
 #!/usr/bin/env bash
-# The text program on every case of tests/cases/ and tests/cases-numbers/, on every row of tests/rows.txt, and on a text of short lines that is longer
-# than a piece: whole, cut into pieces, and line by line. The program is built first, where it is not as its sources are.
+# The text program on every case of tests/cases/ and tests/cases-numbers/, on every row of tests/cases-numbers/rows.txt, and on a text of short lines
+# that is longer than a piece: whole, cut into pieces, and line by line. The program is built first, where it is not as its sources are.
 set -u
 cd "$(dirname "$0")/.." || exit 2
 
@@ -32,10 +32,10 @@ while read -r kind x y a b reply; do
     for ((at = 0; at < 22; at += 2)); do sum=$((sum + 16#${line:at:2})); done
     printf '000000000000000000000000\n011E0000000000000000001F\n%s%02X\n\n' "$line" $((sum % 256)) >"$row.in"
     printf '%s\n' "$reply" >"$row.out"
-done < <(grep '^[0-9]' tests/rows.txt)
+done < <(grep '^[0-9]' tests/cases-numbers/rows.txt)
 
 failures=0
 for folder in tests/cases tests/cases-numbers "$work"; do
-    python3 tests/cases.py "$folder" target/native/muktrashi || failures=1
+    python3 tests/helpers/cases.py "$folder" target/native/muktrashi || failures=1
 done
 exit "$failures"

@@ -25,7 +25,7 @@ $difference"
 ./judge examples/whole-case.in >/dev/null || exit 1
 judged examples/README.md examples/*.in
 judged docs/RULES.md tests/cases-rules/*.in
-tests/documented.py docs/RULES.md || fail "docs/RULES.md has a command that writes something else"
+tests/helpers/documented.py docs/RULES.md || fail "docs/RULES.md has a command that writes something else"
 
 [ "$failures" -eq 0 ] && printf 'examples.sh: %s captures as told\n' "$(ls examples/*.in tests/cases-rules/*.in | wc -l)"
 exit "$((failures > 0))"

@@ -1,5 +1,5 @@
-/* Makes the calls of the file `calls`, which tests/reference/ writes, and holds what each answers and leaves to what the references have. Ends at the
- * first difference, or with the count of calls. tests/reference/calls.rs tells how the file is written. */
+/* Makes the calls of the file `calls`, which tests/board/reference/ writes, and holds what each answers and leaves to what the references have. Ends at
+ * the first difference, or with the count of calls. tests/board/reference/calls.rs tells how the file is written. */
 #include <stdio.h>
 #include <stdlib.h>
 

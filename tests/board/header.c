@@ -1,5 +1,5 @@
 /* Each function that include/muktrashi.h declares, with an answer that is known and with a refusal, what refused calls leave, and where each field of the
- * record lies. examples/board.c calls four of the functions, and tests/reference/ has declarations of its own. */
+ * record lies. examples/board.c calls four of the functions, and tests/board/reference/ has declarations of its own. */
 #include <stdio.h>
 #include <string.h>
 

@@ -1,6 +1,6 @@
-//! A file of calls with what the references have for them, which tests/processors/replay.c makes again on other processors. For each call: its function,
-//! what it reads, what it may write as it was, the code, and what it may write as it is left. A row is its length and its numbers. A number is in groups
-//! of seven bits, lowest first, with 128 added to all but the last. 0 for the function ends the file; the count of calls follows.
+//! A file of calls with what the references have for them, which tests/board/processors/replay.c makes again on other processors. For each call: its
+//! function, what it reads, what it may write as it was, the code, and what it may write as it is left. A row is its length and its numbers. A number is
+//! in groups of seven bits, lowest first, with 128 added to all but the last. 0 for the function ends the file; the count of calls follows.
 
 use crate::board::{Call, Checked, Kept, Line};
 use std::fs::File;

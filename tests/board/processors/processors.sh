@@ -1,6 +1,6 @@
 # How a C program is compiled for a processor of tools/build, and run here; sourced by scripts that have a function `say` and a folder `work`. This
 # machine's own processor needs no emulator. A Debian package that is missing is installed where that can be done.
-top=$(cd "$(dirname "${BASH_SOURCE[0]}")/../.." && pwd) || exit 2
+top=$(cd "$(dirname "${BASH_SOURCE[0]}")/../../.." && pwd) || exit 2
 machine=$(uname -m)
 other=aarch64
 [ "$machine" = x86_64 ] || other=x86_64
@@ -8,7 +8,7 @@ boards=(cortex-m0 cortex-m3 cortex-m4 cortex-m4f)
 
 # for_processor NAME: `compiles` is what C is compiled by, `library` what it is linked with, `emulator` what runs it; they come from `packages`.
 for_processor() {
-    local here=$top/tests/processors word
+    local here=$top/tests/board/processors word
     library=("$top/target/board/$1/libmuktrashi.a") emulator=()
     case $1 in
     "$machine") compiles=(gcc) packages=(gcc libc6-dev) ;;
