@@ -1,7 +1,7 @@
 -- What equals the same is the same: why a contract that is an equation allows one outcome only.
 use mathlib.Core.Path.{_≡_, sym, ap, _∙_}
 
--- Two that equal the same.
+-- Two that equal the same: the one law of every contract `r ≡ value`, where the value does not speak of r.
 pub one-value : {A : Type 0} {x p q : A} → p ≡ x → q ≡ x → p ≡ q
 one-value p q = p ∙ sym q
 

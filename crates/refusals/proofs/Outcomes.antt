@@ -1,10 +1,9 @@
--- Any two outcomes that the contract of a public function allows are the same; and what a refusal gives tells which one it is.
+-- What a refusal gives tells which one it is, so that answers which say the same refusal are the same. The contracts of `number` and `row` are
+-- `r ≡ value`, whose law is `one-value` of crate `meaning`.
 use mathlib.Core.Bool.{cond}
 use mathlib.Core.Path.{_≡_, refl}
-use Prim.Native.Nat.{ℕ}
 use lib.Dec.{eqb}
-use Rattle.meaning.proofs.OneValue.{one-value}
-use Rattle.refusals.specs.Refusals.{Refused, refused, numberOf, rowIn, rowOf}
+use Rattle.refusals.specs.Refusals.{Refused, refused, rowIn}
 use Rattle.refusals.specs.declared.refusal.Refusal.{Refusal}
 use Rattle.refusals.specs.declared.refusal.Refusal.the-variants.{Length, Row, Limits, Store, Earlier, Late, Unsound, BadLine, BadSum}
 
@@ -30,9 +29,3 @@ refusal-back Late = refl
 refusal-back Unsound = refl
 refusal-back BadLine = refl
 refusal-back BadSum = refl
-
-pub number-one-outcome : (r : Refusal) (p q : ℕ) → p ≡ numberOf r → q ≡ numberOf r → p ≡ q
-number-one-outcome r p q = one-value
-
-pub row-one-outcome : (r : Refusal) (p q : ℕ) → p ≡ rowOf r → q ≡ rowOf r → p ≡ q
-row-one-outcome r p q = one-value

@@ -1,3 +1,2 @@
 -- Laws of times and gaps; the proofs of the functions stand in the folders beside them.
 pub mod GapLaws
-pub mod Outcomes
