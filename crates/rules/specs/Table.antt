@@ -2,6 +2,7 @@
 use mathlib.Core.Bool.{Bool, cond, _&&_, _||_}
 use mathlib.Core.List.{List}
 use mathlib.Core.Option.{Option, none, some}
+use mathlib.Core.Path.{_≡_}
 use Prim.Native.Nat.{ℕ, zero, suc, _/_, _%_}
 use lib.Dec.{eqb, leb}
 use lib.ListN.{length}
@@ -61,3 +62,7 @@ checkOf table =
 abbrev pub checkReply : Answer.Checked → CheckReply
 checkReply (Answer.the-variants.Passed rows need) = passed rows need
 checkReply (Answer.the-variants.Refused refusal) = refusedBy (refused refusal)
+
+-- An answer of the check that is right for a table: it says what the check of the table gives.
+abbrev pub Checks : List ℕ → Answer.Checked → Type 0
+Checks table answer = checkReply answer ≡ checkOf table

@@ -1,7 +1,7 @@
 // The check of a rule table (document 01, "The rule table" and "Refusal numbers"), which start and every event begin with.
 
 ghost use mathlib.Core.Path.{_≡_};
-ghost use Rattle.rules.specs.Table.{checkOf, checkReply, lengthPasses, limitsPass};
+ghost use Rattle.rules.specs.Table.{Checks, lengthPasses, limitsPass};
 use crate::kinds;
 use crate::limits::LONGEST;
 use crate::limits::ROW_LIMIT;
@@ -20,7 +20,7 @@ pub enum Checked {
 
 // The row count and the need of a table; or refusal 1 for its length, or that of its first bad row, after which nothing is looked at.
 pub fn check(table: &[u32]) -> Checked
-    ensures { λ r. ⌜ checkReply r ≡ checkOf (now (table .entry)) ⌝ }
+    ensures { λ r. ⌜ Checks (now (table .entry)) r ⌝ }
 {
     if !length_passes(table.len()) {
         return Checked::Refused(Refusal::Length);
