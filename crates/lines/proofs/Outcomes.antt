@@ -16,10 +16,10 @@ use Rattle.lines.specs.declared.rule.RuleFound.{RuleFound}
 use Rattle.lines.specs.declared.rule.RuleFound.the-variants as rule
 use Rattle.lines.specs.Digits.{DigitsWritten}
 use Rattle.lines.specs.Read.{LineReply, atEnd, goodLine, badLine, Read}
-use Rattle.lines.specs.Frame.{readFrame, frameFound, frameSaid}
+use Rattle.lines.specs.Frame.{frameFound, frameSaid, ReadsFrame}
 use Rattle.lines.specs.declared.reader.Reader.{Reader}
 use Rattle.lines.specs.Reader.{NextFrame}
-use Rattle.lines.specs.Rule.{readRule, ruleFound, ruleSaid}
+use Rattle.lines.specs.Rule.{ruleFound, ruleSaid, ReadsRule}
 
 abbrev frameOf : LineReply → FrameFound
 frameOf atEnd = frame.End
@@ -42,7 +42,7 @@ rule-undone (rule.Rule kind x y a b) = refl
 rule-undone (rule.Refused r) = ap rule.Refused (refusal-back r)
 
 -- `lines::frame::read_frame`, and `lines::reader::frame_at`, which promises the same.
-pub one-frame : (text : List ℕ) (place : ℕ) (r r′ : FrameRead) → frameSaid r ≡ readFrame text place → frameSaid r′ ≡ readFrame text place → r ≡ r′
+pub one-frame : (text : List ℕ) (place : ℕ) (r r′ : FrameRead) → ReadsFrame text place r → ReadsFrame text place r′ → r ≡ r′
 one-frame text place =
     one-said frameSaid (λ (s : Read). record { found = frameOf (s .said); next = s .next })
     (λ (r : FrameRead). ap (λ (f : FrameFound). record { found = f; next = r .next }) (frame-undone (r .found)))
@@ -58,7 +58,7 @@ one-next before found found′ after after′ h h′ =
     (ap (λ (r : FrameRead). r .found) same-read, λ i. record { text = same-text i; place = same-read i .next })
 
 -- `lines::rule::read_rule`.
-pub one-rule : (text : List ℕ) (place : ℕ) (r r′ : RuleRead) → ruleSaid r ≡ readRule text place → ruleSaid r′ ≡ readRule text place → r ≡ r′
+pub one-rule : (text : List ℕ) (place : ℕ) (r r′ : RuleRead) → ReadsRule text place r → ReadsRule text place r′ → r ≡ r′
 one-rule text place =
     one-said ruleSaid (λ (s : Read). record { found = ruleOf (s .said); next = s .next })
     (λ (r : RuleRead). ap (λ (f : RuleFound). record { found = f; next = r .next }) (rule-undone (r .found)))

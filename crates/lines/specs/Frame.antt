@@ -1,5 +1,6 @@
 -- A frame read at a place (document 01, "Lines from the board").
 use mathlib.Core.List.{List, [], _∷_}
+use mathlib.Core.Path.{_≡_}
 use Prim.Native.Nat.{ℕ}
 use Rattle.refusals.specs.Refusals.{refused}
 use Rattle.lines.specs.declared.frame.FrameRead.{FrameRead}
@@ -22,3 +23,7 @@ frameFound (Refused r) = badLine (refused r)
 
 abbrev pub frameSaid : FrameRead → Read
 frameSaid r = record { said = frameFound (r .found); next = r .next }
+
+-- An answer that is right for a text and a place: it says what reading a frame there gives.
+abbrev pub ReadsFrame : List ℕ → ℕ → FrameRead → Type 0
+ReadsFrame text place read = frameSaid read ≡ readFrame text place

@@ -1,5 +1,6 @@
 -- A rule line read at a place (document 01, "The program's text"). Its five numbers are not judged.
 use mathlib.Core.List.{List, [], _∷_}
+use mathlib.Core.Path.{_≡_}
 use Prim.Native.Nat.{ℕ}
 use Rattle.refusals.specs.Refusals.{refused}
 use Rattle.lines.specs.declared.rule.RuleRead.{RuleRead}
@@ -22,3 +23,7 @@ ruleFound (Refused r) = badLine (refused r)
 
 abbrev pub ruleSaid : RuleRead → Read
 ruleSaid r = record { said = ruleFound (r .found); next = r .next }
+
+-- An answer that is right for a text and a place: it says what reading a rule line there gives.
+abbrev pub ReadsRule : List ℕ → ℕ → RuleRead → Type 0
+ReadsRule text place read = ruleSaid read ≡ readRule text place

@@ -1,7 +1,6 @@
 // Frames (document 01, "Lines from the board"): counter and mask, six data bytes, read at a place of a lent text.
 
-ghost use mathlib.Core.Path.{_≡_};
-ghost use Rattle.lines.specs.Frame.{readFrame, frameSaid};
+ghost use Rattle.lines.specs.Frame.{ReadsFrame};
 use crate::digits::hex_at;
 use crate::line::LineFound;
 use crate::line::read_line;
@@ -26,7 +25,7 @@ pub struct FrameRead {
 
 // What stands at a place, judged by form and sum alone: the end, a frame, 8 or 9. Any place may be asked for.
 pub fn read_frame(text: &[u8], place: usize) -> FrameRead
-    ensures { λ r. ⌜ frameSaid r ≡ readFrame (now (text .entry)) place ⌝ }
+    ensures { λ r. ⌜ ReadsFrame (now (text .entry)) place r ⌝ }
 {
     let read = read_line(text, place, DATA_BYTES);
     let next = read.next;

@@ -1,8 +1,7 @@
 // A reader that holds the captured text and its place in it (document 01, "Lines from the board"). `frame_at` makes one for a
 // single call; the reader is run through it (`monitor_run`).
 
-ghost use mathlib.Core.Path.{_≡_};
-ghost use Rattle.lines.specs.Frame.{readFrame, frameSaid};
+ghost use Rattle.lines.specs.Frame.{ReadsFrame};
 ghost use Rattle.lines.specs.Reader.{NextFrame};
 use crate::frame::FrameFound;
 use crate::frame::FrameRead;
@@ -26,7 +25,7 @@ impl<'a> Reader<'a> {
 
 // What is found at a place of a text, and the place to read at next, by a reader of its own.
 pub fn frame_at(text: &[u8], place: usize) -> FrameRead
-    ensures { λ r. ⌜ frameSaid r ≡ readFrame (now (text .entry)) place ⌝ }
+    ensures { λ r. ⌜ ReadsFrame (now (text .entry)) place r ⌝ }
 {
     let mut reader = Reader { text, place };
     let found = reader.next_frame();

@@ -1,7 +1,6 @@
 // Rule lines (document 01, "The program's text"): kind, x, y, a and b, eleven data bytes, read at a place of a lent text. The numbers are not judged.
 
-ghost use mathlib.Core.Path.{_≡_};
-ghost use Rattle.lines.specs.Rule.{readRule, ruleSaid};
+ghost use Rattle.lines.specs.Rule.{ReadsRule};
 use crate::digits::hex_at;
 use crate::line::LineFound;
 use crate::line::read_line;
@@ -35,7 +34,7 @@ pub struct RuleRead {
 
 // What stands at a place, judged by form and sum alone: the end, a rule, 8 or 9. Any place may be asked for.
 pub fn read_rule(text: &[u8], place: usize) -> RuleRead
-    ensures { λ r. ⌜ ruleSaid r ≡ readRule (now (text .entry)) place ⌝ }
+    ensures { λ r. ⌜ ReadsRule (now (text .entry)) place r ⌝ }
 {
     let read = read_line(text, place, DATA_BYTES);
     let next = read.next;

@@ -48,7 +48,7 @@ use denote.Triple.Spec.{Meets, tripleOf}
 use denote.Triple.Table.{entered, cited}
 use denote.Triple.Walked.{says, Stays, stay-ref, walkOf, goes-ref, Walks, ends-at, walked, walk-meets}
 use denote.Triple.Clauses.{ensured, lasts}
-use Rattle.lines.specs.Frame.{readFrame, frameSaid}
+use Rattle.lines.specs.Frame.{ReadsFrame}
 use Rattle.lines.specs.declared.reader.Reader.{Reader}
 use Rattle.lines.specs.declared.frame.FrameRead.{FrameRead}
 use Rattle.lines.proofs.reader.Reader as T
@@ -130,7 +130,7 @@ module _ {M : Type 1} (𝓤 : URA M) (H : Heap 𝓤) (A : Atoms 𝓤) (W : Given
 
   -- what the callee says of its result
   abbrev Said : FrameRead → Type 0
-  Said r = frameSaid r ≡ readFrame (now (h .text)) (h .place)
+  Said r = ReadsFrame (now (h .text)) (h .place) r
 
   -- the machine values of the callee's result, and of what was found
   abbrev machʳ : FrameRead → Val
