@@ -10,7 +10,7 @@ use Rattle.meaning.specs.Spans.{Span, _to_, touches, extended, clip, join, upda
 use Rattle.spans.specs.declared.stretch.Held.{Held}
 use Rattle.spans.specs.declared.stretch.Updated.{Updated}
 use Rattle.spans.specs.Layout.{endAt, spansHeld, Laid, Packed, fitting, spansOver, freed}
-use Rattle.spans.specs.Stretch.{covered, spansIn, spansUpdated, SpansWritten, UpdatedTo}
+use Rattle.spans.specs.Stretch.{covered, spansIn, spansUpdated, spansKept, spansFed, SpansWritten, UpdatedTo}
 use Rattle.spans.proofs.LayoutLaws.{
   Stored,
   word-back,
@@ -64,11 +64,11 @@ module _
     (keep : Bool)
     (time : ℕ)
     (room : 2 * found .count ≤ length words)
-    (clipped : SpansWritten (freed (found .count) words) mid kept (cond keep (clip time (spansHeld words found)) []))
+    (clipped : SpansWritten (freed (found .count) words) mid kept (spansKept words found keep time))
     (same : length mid ≡ length words)
   where
     abbrev K : List Span
-    K = cond keep (clip time (spansHeld words found)) []
+    K = spansKept words found keep time
 
     pub kept-room : 2 * kept .count ≤ length words
     kept-room =
@@ -83,8 +83,7 @@ module _
         {fed : Held}
         (feed : Bool)
         (first last : ℕ)
-        (joined :
-        SpansWritten mid after fed (fitting mid (cond feed (join (first to endAt last) (spansHeld mid kept)) (spansHeld mid kept))))
+        (joined : SpansWritten mid after fed (spansFed mid kept feed (first to endAt last)))
       where
         abbrev U : List Span
         U = fitting words (update keep feed time (first to endAt last) (spansHeld words found))

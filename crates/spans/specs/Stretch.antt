@@ -6,7 +6,7 @@ use Prim.Native.Nat.{ℕ, suc}
 use lib.Dec.{leb}
 use lib.ListN.{length}
 use Rattle.meaning.specs.Computed.{notPast?}
-use Rattle.meaning.specs.Spans.{Span, _to_, ended, update}
+use Rattle.meaning.specs.Spans.{Span, _to_, ended, clip, join, update}
 use Rattle.spans.specs.declared.stretch.Held.{Held}
 use Rattle.spans.specs.declared.stretch.Updated.{Updated}
 use Rattle.spans.specs.Layout.{spansHeld, fitting, spansOver, freed}
@@ -27,6 +27,13 @@ spansIn words held = fitting words (spansHeld words held)
 
 abbrev pub spansUpdated : List ℕ → Held → (x y : Bool) → ℕ → Span → List Span
 spansUpdated words held x y t s = fitting words (update x y t s (spansIn words held))
+
+-- An update's two halves: the spans held are clipped, or all dropped unless x; then the span is joined in if y, as many as have room.
+abbrev pub spansKept : List ℕ → Held → (x : Bool) → ℕ → List Span
+spansKept words held x t = cond x (clip t (spansHeld words held)) []
+
+abbrev pub spansFed : List ℕ → Held → (y : Bool) → Span → List Span
+spansFed words held y s = fitting words (cond y (join s (spansHeld words held)) (spansHeld words held))
 
 -- The spans S written over words, and what is held of them.
 pub record SpansWritten (words after : List ℕ) (held : Held) (S : List Span) : Type 0 where

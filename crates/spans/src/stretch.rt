@@ -12,7 +12,7 @@ ghost use lib.Dec.{eqb, leb};
 ghost use lib.ListN.{length, getD, set};
 ghost use Rattle.meaning.specs.Spans.{_to_, clip, join};
 ghost use Rattle.spans.specs.Layout.{spanWords, endAt, spansHeld, spansFrom, fitting, freed};
-ghost use Rattle.spans.specs.Stretch.{covered, endedCount, spansIn, spansUpdated, SpansWritten, UpdatedTo};
+ghost use Rattle.spans.specs.Stretch.{covered, endedCount, spansIn, spansUpdated, spansKept, spansFed, SpansWritten, UpdatedTo};
 
 // "two words (first, last) for each span".
 pub const SPAN_WORDS: usize = 2;
@@ -42,7 +42,8 @@ pub fn update(
     first: u64,
     last: u64,
 ) -> Updated
-    ensures { λ r. ⌜ UpdatedTo (now (words .entry)) held (now (words .exit)) r time (spansUpdated (now (words .entry)) held keep feed time (first to endAt last)) ⌝ }
+    ensures { λ r. ⌜ UpdatedTo (now (words .entry)) held (now (words .exit)) r time
+        (spansUpdated (now (words .entry)) held keep feed time (first to endAt last)) ⌝ }
 {
     let found = fit(words, held);
     let kept = clip_or_clear(words, found, keep, time);
@@ -53,7 +54,8 @@ pub fn update(
 
 // As many of the spans held as the words have room for.
 fn fit(words: &[u64], held: Held) -> Held
-    ensures { λ r. ⌜ (spanWords * r .count ≤ length (now (words .entry))) × (spansHeld (now (words .entry)) r ≡ spansIn (now (words .entry)) held) ⌝ }
+    ensures { λ r. ⌜ (spanWords * r .count ≤ length (now (words .entry)))
+        × (spansHeld (now (words .entry)) r ≡ spansIn (now (words .entry)) held) ⌝ }
 {
     let room = words.len() / SPAN_WORDS;
     if room < held.count {
@@ -64,7 +66,8 @@ fn fit(words: &[u64], held: Held) -> Held
 
 fn clip_or_clear(words: &mut [u64], held: Held, keep: bool, time: u64) -> Held
     requires { ⌜ spanWords * held .count ≤ length (now words) ⌝ }
-    ensures { λ r. ⌜ SpansWritten (freed (held .count) (now (words .entry))) (now (words .exit)) r (cond keep (clip time (spansHeld (now (words .entry)) held)) []) ⌝ }
+    ensures { λ r. ⌜ SpansWritten (freed (held .count) (now (words .entry))) (now (words .exit)) r
+        (spansKept (now (words .entry)) held keep time) ⌝ }
 {
     if keep {
         return clip(words, held, time);
@@ -74,7 +77,8 @@ fn clip_or_clear(words: &mut [u64], held: Held, keep: bool, time: u64) -> Held
 
 fn join_or_not(words: &mut [u64], held: Held, feed: bool, first: u64, last: u64) -> Held
     requires { ⌜ spanWords * held .count ≤ length (now words) ⌝ }
-    ensures { λ r. ⌜ SpansWritten (now (words .entry)) (now (words .exit)) r (fitting (now (words .entry)) (cond feed (join (first to endAt last) (spansHeld (now (words .entry)) held)) (spansHeld (now (words .entry)) held))) ⌝ }
+    ensures { λ r. ⌜ SpansWritten (now (words .entry)) (now (words .exit)) r
+        (spansFed (now (words .entry)) held feed (first to endAt last)) ⌝ }
 {
     if feed {
         return join(words, held, first, last);
@@ -101,7 +105,8 @@ fn cover(words: &[u64], held: Held, time: u64) -> bool
 // The spans are clipped at the time and ended ones dropped: later ones move down, and the words freed become 0.
 fn clip(words: &mut [u64], held: Held, time: u64) -> Held
     requires { ⌜ spanWords * held .count ≤ length (now words) ⌝ }
-    ensures { λ r. ⌜ SpansWritten (freed (held .count) (now (words .entry))) (now (words .exit)) r (clip time (spansHeld (now (words .entry)) held)) ⌝ }
+    ensures { λ r. ⌜ SpansWritten (freed (held .count) (now (words .entry))) (now (words .exit)) r
+        (clip time (spansHeld (now (words .entry)) held)) ⌝ }
 {
     let count = held.count;
     let gone = ended(words, count, time);
@@ -125,7 +130,8 @@ fn clear(words: &mut [u64], held: Held) -> Held
 // The span from `first` to `last` is joined in: it extends the last span held where the two touch or overlap, otherwise it follows it.
 fn join(words: &mut [u64], held: Held, first: u64, last: u64) -> Held
     requires { ⌜ spanWords * held .count ≤ length (now words) ⌝ }
-    ensures { λ r. ⌜ SpansWritten (now (words .entry)) (now (words .exit)) r (fitting (now (words .entry)) (join (first to endAt last) (spansHeld (now (words .entry)) held))) ⌝ }
+    ensures { λ r. ⌜ SpansWritten (now (words .entry)) (now (words .exit)) r
+        (fitting (now (words .entry)) (join (first to endAt last) (spansHeld (now (words .entry)) held))) ⌝ }
 {
     let count = held.count;
     if count == 0 {
@@ -157,7 +163,8 @@ fn ended(words: &[u64], count: usize, time: u64) -> usize
 // The first span, if there is one, begins no earlier than the time.
 fn raise_first(words: &mut [u64], count: usize, time: u64)
     requires { ⌜ spanWords * count ≤ length (now words) ⌝ }
-    ensures { λ r. ⌜ now (words .exit) ≡ cond (eqb count 0) (now (words .entry)) (set (now (words .entry)) 0 (max time (getD (now (words .entry)) 0 0))) ⌝ }
+    ensures { λ r. ⌜ now (words .exit) ≡
+        cond (eqb count 0) (now (words .entry)) (set (now (words .entry)) 0 (max time (getD (now (words .entry)) 0 0))) ⌝ }
 {
     if count == 0 {
         return;
@@ -170,7 +177,8 @@ fn raise_first(words: &mut [u64], count: usize, time: u64)
 // The span is written after those held, if there is room.
 fn append(words: &mut [u64], held: Held, first: u64, last: u64) -> Held
     requires { ⌜ spanWords * held .count ≤ length (now words) ⌝ }
-    ensures { λ r. ⌜ SpansWritten (now (words .entry)) (now (words .exit)) r (fitting (now (words .entry)) (spansHeld (now (words .entry)) held ++ ((first to endAt last) ∷ []))) ⌝ }
+    ensures { λ r. ⌜ SpansWritten (now (words .entry)) (now (words .exit)) r
+        (fitting (now (words .entry)) (spansHeld (now (words .entry)) held ++ ((first to endAt last) ∷ []))) ⌝ }
 {
     let count = held.count;
     if words.len() / SPAN_WORDS <= count {

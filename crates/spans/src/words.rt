@@ -20,7 +20,8 @@ pub fn clear_words(words: &mut [u64])
 // Words `from` to `end` move to the start, and the words that they leave become 0.
 pub(crate) fn move_down(words: &mut [u64], from: usize, end: usize)
     requires { ⌜ (from ≤ end) × (end ≤ length (now words)) ⌝ }
-    ensures { λ r. ⌜ now (words .exit) ≡ take (end - from) (drop from (now (words .entry))) ++ (replicate from 0 ++ drop end (now (words .entry))) ⌝ }
+    ensures { λ r. ⌜ now (words .exit) ≡
+        take (end - from) (drop from (now (words .entry))) ++ (replicate from 0 ++ drop end (now (words .entry))) ⌝ }
 {
     if from == 0 {
         return;
