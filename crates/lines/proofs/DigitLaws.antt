@@ -38,8 +38,12 @@ pub digit-range : (byte : ℕ) → isDigit byte ≡ true → DigitRange byte
 digit-range byte is =
     record {
       low = by-test (leb byte0 byte) (leb-true byte0 byte) (λ no. absurd (no-truth (sym (digit-below byte (leb-false byte0 byte no)) ∙ is)));
-      high = by-test (leb byte byteF) (leb-true byte byteF) (λ no. let low : byteF < byte = leb-false byte byteF no in absurd (no-truth (sym (digit-letter byte (omega arith) ∙ no) ∙ is)));
-      letter = λ above. by-test (leb byteA byte) (leb-true byteA byte) (λ no. absurd (no-truth (sym (digit-between byte above (leb-false byteA byte no)) ∙ is)));
+      high =
+          by-test (leb byte byteF) (leb-true byte byteF)
+          (λ no. let over : byteF < byte = leb-false byte byteF no in absurd (no-truth (sym (digit-letter byte (omega arith) ∙ no) ∙ is)));
+      letter =
+          λ above. by-test (leb byteA byte) (leb-true byteA byte)
+          (λ no. absurd (no-truth (sym (digit-between byte above (leb-false byteA byte no)) ∙ is)));
     }
 
 pub digitValue-below : (byte : ℕ) → digitValue byte < 16

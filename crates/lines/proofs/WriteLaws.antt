@@ -30,7 +30,14 @@ module _ (out : List ℕ) (place n value : ℕ) where
   store-digit within =
       let on : place + suc n ≡ suc (place + n) = omega arith in
       let inside : place + n < length (set out (place + n) (digitByte (value % 16))) = rw length-set within in
-      rw (take-set-le place out (place + n) (digitByte (value % 16)) (omega arith), drop-cons (set out (place + n) (digitByte (value % 16))) (place + n) 0 inside, getD-set-same out (place + n) (digitByte (value % 16)) 0 within, drop-set-lt (suc (place + n)) out (place + n) (digitByte (value % 16)) (omega arith), on, append-assoc)
+      rw (
+        take-set-le place out (place + n) (digitByte (value % 16)) (omega arith),
+        drop-cons (set out (place + n) (digitByte (value % 16))) (place + n) 0 inside,
+        getD-set-same out (place + n) (digitByte (value % 16)) 0 within,
+        drop-set-lt (suc (place + n)) out (place + n) (digitByte (value % 16)) (omega arith),
+        on,
+        append-assoc,
+      )
 
 -- Nothing is left: the bytes are as they should be.
 pub none-left : (out : List ℕ) (place value : ℕ) → leftOver out place 0 value ≡ out

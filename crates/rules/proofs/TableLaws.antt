@@ -88,7 +88,8 @@ first-kept table r (suc n) fault h within =
     (eq-or-lt-of-le within)
 
 -- A fault after rows without one is the first.
-pub first-at : (table : List ℕ) (r : ℕ) (fault : Option Refused) → firstFault table r ≡ none → faultOf r (numbersAt table r) ≡ fault → firstFault table (suc r) ≡ fault
+pub first-at : (table : List ℕ) (r : ℕ) (fault : Option Refused) → firstFault table r ≡ none → faultOf r (numbersAt table r) ≡ fault
+    → firstFault table (suc r) ≡ fault
 unfolding firstFault
 first-at table r fault h e = rw (h, e)
 

@@ -1,4 +1,5 @@
-// The one table of kinds (document 01), private to the crate: specs/Kinds as code. A new kind is a line in both, and a case of `Plain` where it is no stretch.
+// The one table of kinds (document 01), private to the crate: specs/Kinds as code. A new kind is a line in both, and a case of `Plain` where it has
+// no stretch.
 
 ghost use mathlib.Core.Path.{_≡_};
 ghost use Rattle.rules.specs.Kinds.{kindAt, known, kindLine, useOf, fits};

@@ -29,13 +29,17 @@ is-digit-requires c κs = search needs
 -- What was judged is the byte at the count.
 judged : (c : tie.After-is-digit Inv-loop μ-loop)
     → c .is-digit .result
-    ≡ isDigit (byteAt (c .before .before .before .before .before .args .text .now) (c .before .before .before .before .before .args .place + c .before .before .before .loop .count))
+    ≡ (let args = c .before .before .before .before .before .args in
+    isDigit (byteAt (args .text .now) (args .place + c .before .before .before .loop .count)))
 judged c = c .is-digit .ensures ∙ ap isDigit (c .before .byte-at .ensures)
 
 returns : tie.Need-returns Inv-loop μ-loop
 returns c =
     let at = c .before .before .before .before in
-    sym (at .loop .inv .1 ∙ count-ends (at .before .before .args .text .now) (at .before .before .args .place) (at .loop .count) (at .before .before .args .n) (c .before .before .before .loop-test .taken) (sym (judged (c .before)) ∙ c .if1 .left))
+    let args = at .before .before .args in
+    let other = sym (judged (c .before)) ∙ c .if1 .left in
+    let ends = count-ends (args .text .now) (args .place) (at .loop .count) (args .n) (c .before .before .before .loop-test .taken) other in
+    sym (at .loop .inv .1 ∙ ends)
 
 add-count : tie.Need-add-count Inv-loop μ-loop
 add-count c = omega arith
@@ -46,14 +50,17 @@ loop-less c = omega arith
 loop-again : tie.Need-loop-again Inv-loop μ-loop
 loop-again c =
     let at = c .before .before .before .before in
-    (omega arith, at .loop .inv .1 ∙ count-digit (at .before .before .args .text .now) (at .before .before .args .place) (at .loop .count) (at .before .before .args .n) (c .before .before .before .loop-test .taken) (sym (judged (c .before)) ∙ c .if1 .taken))
+    let args = at .before .before .args in
+    let digit = sym (judged (c .before)) ∙ c .if1 .taken in
+    let more = count-digit (args .text .now) (args .place) (at .loop .count) (args .n) (c .before .before .before .loop-test .taken) digit in
+    (omega arith, at .loop .inv .1 ∙ more)
 
 returns-2 : tie.Need-returns-2 Inv-loop μ-loop
 unfolding digitsAt
 returns-2 c =
-    let all : c .before .before .before .args .n - c .before .loop .count ≡ 0 = omega arith in
-    let sum : digitsAt (c .before .before .before .args .text .now) (c .before .before .before .args .place) (c .before .before .before .args .n) ≡ c .before .loop .count + 0 =
-    c .before .loop .inv .1 ∙ rw all in
+    let args = c .before .before .before .args in
+    let all : args .n - c .before .loop .count ≡ 0 = omega arith in
+    let sum : digitsAt (args .text .now) (args .place) (args .n) ≡ c .before .loop .count + 0 = c .before .loop .inv .1 ∙ rw all in
     omega arith
 
 pub digits-at-spec : {M : Type 1} → statement M

@@ -36,7 +36,8 @@ sub-if2 c = omega arith
 
 returns-2 : tie.Need-returns-2 Inv-loop μ-loop
 returns-2 c =
-    let short : length (c .before .before .before .args .out .now) < c .before .before .before .args .place + c .before .before .before .args .n = omega arith in
+    let args = c .before .before .before .args in
+    let short : length (args .out .now) < args .place + args .n = omega arith in
     no-room _ _ _ _ short
 
 loop-holds : tie.Need-loop-holds Inv-loop μ-loop

@@ -40,7 +40,14 @@ add-t16 c = search needs
 returns-2 : tie.Need-returns-2
 unfolding lineAt
 returns-2 c = (
-  rw (lt-leb _ _ (c .before .before .before .before .before .if1 .left), ← c .before .before .before .before .right-at .ensures, eq-eqb _ _ (c .before .before .before .if2 .taken), ← c .before .before .sum-at .ensures, ← c .before .hex-at .ensures, eq-eqb _ _ (c .if3 .taken)),
+  rw (
+    lt-leb _ _ (c .before .before .before .before .before .if1 .left),
+    ← c .before .before .before .before .right-at .ensures,
+    eq-eqb _ _ (c .before .before .before .if2 .taken),
+    ← c .before .before .sum-at .ensures,
+    ← c .before .hex-at .ensures,
+    eq-eqb _ _ (c .if3 .taken),
+  ),
   refl,
 )
 
@@ -50,7 +57,14 @@ past-line-feed-requires c κs = search needs
 returns-3 : tie.Need-returns-3
 unfolding lineAt
 returns-3 c = (
-  rw (lt-leb _ _ (c .before .before .before .before .before .before .if1 .left), ← c .before .before .before .before .before .right-at .ensures, eq-eqb _ _ (c .before .before .before .before .if2 .taken), ← c .before .before .before .sum-at .ensures, ← c .before .before .hex-at .ensures, ne-eqb _ _ (c .before .if3 .left)),
+  rw (
+    lt-leb _ _ (c .before .before .before .before .before .before .if1 .left),
+    ← c .before .before .before .before .before .right-at .ensures,
+    eq-eqb _ _ (c .before .before .before .before .if2 .taken),
+    ← c .before .before .before .sum-at .ensures,
+    ← c .before .before .hex-at .ensures,
+    ne-eqb _ _ (c .before .if3 .left),
+  ),
   c .past-line-feed .ensures,
 )
 

@@ -16,11 +16,23 @@ add-result c = search needs
 
 returns : tie.Need-returns
 unfolding rightAt
-returns c = rw (← c .before .before .before .digits-at .ensures, eq-eqb _ _ (c .before .before .if1 .taken), ← c .before .byte-at .ensures, eq-eqb _ _ (c .if2 .taken))
+returns c =
+    rw (
+      ← c .before .before .before .digits-at .ensures,
+      eq-eqb _ _ (c .before .before .if1 .taken),
+      ← c .before .byte-at .ensures,
+      eq-eqb _ _ (c .if2 .taken),
+    )
 
 returns-2 : tie.Need-returns-2
 unfolding rightAt
-returns-2 c = rw (← c .before .before .before .digits-at .ensures, eq-eqb _ _ (c .before .before .if1 .taken), ← c .before .byte-at .ensures, ne-eqb _ _ (c .if2 .left))
+returns-2 c =
+    rw (
+      ← c .before .before .before .digits-at .ensures,
+      eq-eqb _ _ (c .before .before .if1 .taken),
+      ← c .before .byte-at .ensures,
+      ne-eqb _ _ (c .if2 .left),
+    )
 
 returns-3 : tie.Need-returns-3
 unfolding rightAt

@@ -58,8 +58,15 @@ returns c =
 returns-2 : tie.Need-returns-2
 returns-2 c =
     let at = c .before .before .before .before .before .before .before in
-    rw (c .before .before .before .before .hex-at .ensures, c .before .before .before .hex-at2 .ensures, c .before .before .hex-at3 .ensures, c .before .hex-at4 .ensures, c .hex-at5 .ensures)
-    (read-known ruleWidths _ _ (at .read-line .result) _ (at .read-line .ensures .0) (at .read-line .ensures .1) (c .before .before .before .before .before .enum-told2 .given .1))
+    rw (
+      c .before .before .before .before .hex-at .ensures,
+      c .before .before .before .hex-at2 .ensures,
+      c .before .before .hex-at3 .ensures,
+      c .before .hex-at4 .ensures,
+      c .hex-at5 .ensures,
+    )
+    (read-known ruleWidths _ _ (at .read-line .result) _ (at .read-line .ensures .0) (at .read-line .ensures .1)
+    (c .before .before .before .before .before .enum-told2 .given .1))
 
 returns-3 : tie.Need-returns-3
 returns-3 c =

@@ -19,7 +19,22 @@ use Rattle.refusals.specs.Refusals.{Refused}
 use Rattle.rules.specs.Stretches.{width, offset}
 use Rattle.rules.specs.Table.{lengthPasses, rowPasses, limitsPass, faultOf, firstFault, refusedBy, checkOf}
 use Rattle.rules.specs.declared.numbers.Numbers.{Numbers}
-use Rattle.rules.proofs.TableLaws.{fieldFits, field-told, row-passes, row-unknown, row-unfit, fault-row, fault-limits, fault-none, whole-rows-told, SoFar, refused-at, passed-at, next-passes, refused-length}
+use Rattle.rules.proofs.TableLaws.{
+  fieldFits,
+  field-told,
+  row-passes,
+  row-unknown,
+  row-unfit,
+  fault-row,
+  fault-limits,
+  fault-none,
+  whole-rows-told,
+  SoFar,
+  refused-at,
+  passed-at,
+  next-passes,
+  refused-length,
+}
 use Rattle.rules.proofs.PassedLaws.{range-told, rows-good, width-most, offset-most}
 use Rattle.rules.proofs.table.check.Statement.{statement}
 use Rattle.rules.proofs.table.check.Tie as tie
@@ -52,7 +67,8 @@ refused-here c fault h =
     refused-at (tableAt c) (c .before .before .rows .need) (rowAt c) (c .before .before .rows .inv) fault (c .before .if2 .left) h
 
 -- What the calls in a row tell of the table.
-known-told : (c : tie.After-is-known Inv-fields μ-fields Inv-rows μ-rows) → c .is-known .result ≡ known (numbersAt (tableAt (c .before)) (rowAt (c .before)) .kind)
+known-told : (c : tie.After-is-known Inv-fields μ-fields Inv-rows μ-rows)
+    → c .is-known .result ≡ known (numbersAt (tableAt (c .before)) (rowAt (c .before)) .kind)
 known-told c = c .is-known .ensures ∙ ap (λ (row : Numbers). known (row .kind)) (c .before .numbers-at .ensures)
 
 fits-told :
@@ -97,7 +113,9 @@ returns c = refused-length _ (sym (c .before .length-passes .ensures) ∙ not-tr
 rows-holds : tie.Need-rows-holds Inv-fields μ-fields Inv-rows μ-rows
 unfolding offset firstFault
 rows-holds c =
-    let size : lengthPasses (length (c .before .before .before .args .table .now)) ≡ true = sym (c .before .length-passes .ensures) ∙ not-false _ (c .if1 .left) in
+    let size : lengthPasses (length (c .before .before .before .args .table .now)) ≡ true =
+    sym (c .before .length-passes .ensures) ∙ not-false _ (c .if1 .left)
+    in
     record {
       size = size;
       whole = tells-passed (whole-rows-told _) size;
@@ -174,10 +192,11 @@ words-requires c κs = tt
 add-need : tie.Need-add-need Inv-fields μ-fields Inv-rows μ-rows
 add-need c =
     let before = row-of (c .before .before) .before .before .rows .inv in
+    let range = tells-passed (range-told _ _) (sym (c .before .before .limits-pass .ensures) ∙ not-false _ (c .before .if5 .left)) in
     omega (
       arith,
       offset-most _ _ (rows-good _ _ (before .good)),
-      width-most (row-of (c .before .before) .numbers-at .result) (tells-passed (range-told _ _) (sym (c .before .before .limits-pass .ensures) ∙ not-false _ (c .before .if5 .left))),
+      width-most (row-of (c .before .before) .numbers-at .result) range,
     )
 
 add-row : tie.Need-add-row Inv-fields μ-fields Inv-rows μ-rows
