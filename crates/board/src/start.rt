@@ -25,7 +25,7 @@ fn start_coded(table: &[u32], store: &mut [u64]) -> Coded
     let record = started.record;
     let answer = started.answer;
     match answer {
-        StartAnswer::Good => Coded { code: 0, record },
+        StartAnswer::Good { need: _ } => Coded { code: 0, record },
         StartAnswer::Refused(fault) => Coded {
             code: refusal_code(fault),
             record,

@@ -145,7 +145,7 @@ fn begin(table: &[u32], store: &mut [u64]) -> Record {
     let started = start(table, store);
     let answer = started.answer;
     match answer {
-        StartAnswer::Good => say(b": good"),
+        StartAnswer::Good { need } => labelled(b": need ", need),
         StartAnswer::Refused(why) => refusal_told(why),
     }
     left(started.record, store);

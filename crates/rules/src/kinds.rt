@@ -86,14 +86,14 @@ const KINDS: [KindLine; 7] = [
 ];
 
 // Whether there is such a kind.
-pub fn is_known(kind: u32) -> bool
+pub(crate) fn is_known(kind: u32) -> bool
     ensures { λ r. ⌜ r ≡ known kind ⌝ }
 {
     (kind as usize) < KINDS.len()
 }
 
 // The line of a kind; where there is none, a line that uses nothing.
-pub fn line_of(kind: u32) -> KindLine
+pub(crate) fn line_of(kind: u32) -> KindLine
     ensures { λ r. ⌜ r ≡ kindLine (kindAt kind) ⌝ }
 {
     if is_known(kind) {
@@ -103,7 +103,7 @@ pub fn line_of(kind: u32) -> KindLine
 }
 
 // What the number at a field of a row is used as; the fields are x, y, a and b, from 1 on.
-pub fn use_of(line: KindLine, field: usize) -> Use
+pub(crate) fn use_of(line: KindLine, field: usize) -> Use
     ensures { λ r. ⌜ r ≡ useOf line field ⌝ }
 {
     match field {
@@ -115,7 +115,7 @@ pub fn use_of(line: KindLine, field: usize) -> Use
 }
 
 // Whether a number of the row may be used so.
-pub fn may_be(row: u32, usage: Use, number: u32) -> bool
+pub(crate) fn may_be(row: u32, usage: Use, number: u32) -> bool
     ensures { λ r. ⌜ r ≡ fits row usage number ⌝ }
 {
     match usage {
