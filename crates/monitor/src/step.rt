@@ -42,12 +42,23 @@ pub fn event(table: &[u32], store: &mut [u64], found: Record, time: u64, mask: u
     give(answer, arrival, clock, rows, truths, counts)
 }
 
-// The same for a frame: the event at the time that its counter shows since the clock. A refused frame does not move the time.
+// The same for a frame, at the time that its counter shows. A refused frame does not move the time. It does not call `event`: that would copy the record
+// once more, and double the stack.
 pub fn frame(table: &[u32], store: &mut [u64], found: Record, counter: u16, mask: u32) -> Judged
     ensures { λ r. ⌜ StepGives (setupOf (now (table .entry))) (now (store .entry)) found (frame counter mask) r (now (store .exit)) ⌝ }
 {
-    let time = time_shown(found.time, counter);
-    event(table, store, found, time, mask)
+    let clock = found.time;
+    let arrival = Arrival {
+        time: time_shown(clock, counter),
+        mask,
+        seen: found.seen,
+        last: found.time,
+    };
+    let mut truths = found.truths;
+    let mut counts = found.counts;
+    let rows = found.rows;
+    let answer = judge(table, store, arrival, clock, rows, &mut truths, &mut counts);
+    give(answer, arrival, clock, rows, truths, counts)
 }
 
 // Refusals 1 to 4 and 7, then what a sound record is answered. The clock is the last event's time: every accepted call is an event.
