@@ -1,11 +1,12 @@
 -- Laws of deciding: more of what a test tells, and that an answer refuses exactly under conditions that are decided.
-use mathlib.Core.Bool.{Bool, true, false, _&&_}
+use mathlib.Core.Bool.{Bool, true, false, _&&_, Bool·beq}
 use mathlib.Core.Logic.{_⊎_, _↔_, inl, inr, ⊎-elim}
 use mathlib.Core.Path.{_≡_, refl, sym, subst, _∙_}
 use Prim.Native.Nat.{ℕ, zero, suc, _<_}
 use native.Mathlib.Nat.{eq-or-lt-of-le, le-of-suc-le-suc}
 use native.Mathlib.Omega.{arith}
 use lib.Dec.{T}
+use Rattle.meaning.proofs.Truths.{no-truth}
 use Rattle.meaning.proofs.Tells.{Tells, tells-and, tells-same}
 use Rattle.refusals.specs.Refusals.{Refused}
 use Rattle.monitor.specs.Soundness.{every}
@@ -17,6 +18,13 @@ told-true {s = false} told holds = absurd (told .complete holds)
 pub told-false : {s : Bool} {A : Type 0} → Tells s A → ¬ A → s ≡ false
 told-false {s = true} told none = absurd (none (told .sound tt))
 told-false {s = false} told none = refl
+
+-- Of two tests that come out the same, one tells what the other does.
+pub same-tells : (test other : Bool) {A : Type 0} → Bool·beq test other ≡ true → Tells other A → Tells test A
+same-tells true true same told = told
+same-tells true false same told = absurd (no-truth same)
+same-tells false true same told = absurd (no-truth same)
+same-tells false false same told = told
 
 -- The second test tells its condition where the first one passed.
 pub tells-and-then : {s t : Bool} {A B : Type 0} → Tells s A → (A → Tells t B) → Tells (s && t) (A × B)

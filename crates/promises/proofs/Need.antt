@@ -1,13 +1,22 @@
 -- The need is the sum over the since rows: row by row, by what the table of kinds says of kind 6 and of the others.
 use mathlib.Core.List.{List}
 use mathlib.Core.Logic.{⊎-elim}
+use mathlib.Core.Path.{_≡_}
 use Prim.Native.Nat.{ℕ, zero, suc}
 use native.Mathlib.Nat.{add-zero}
-use Rattle.rules.specs.Rows.{rowsOf, numbersAt}
+use Rattle.rules.specs.Kinds.{stretch, xSinceY, kindAt}
+use Rattle.rules.specs.Rows.{rowsOf, numbersAt, ruleOf}
 use Rattle.rules.specs.Stretches.{offset}
+use Rattle.rules.specs.declared.numbers.Numbers.{Numbers}
 use Rattle.monitor.proofs.ReadyLaws.{start-need}
+use Rattle.promises.specs.Conditions.{IsSince}
 use Rattle.promises.specs.Need.{Needs, none, since, other, NeedFollows}
-use Rattle.promises.proofs.StretchTold.{since-or-other, since-rule, other-rule, since-spans, other-spans}
+use Rattle.promises.proofs.StretchTold.{since-or-other, other-rule, since-spans, other-spans}
+
+-- What the table of kinds says of kind 6.
+since-rule : (n : Numbers) → IsSince n → ruleOf n ≡ stretch xSinceY
+unfolding kindAt
+since-rule n is-since = rw is-since
 
 needs : (table : List ℕ) (n : ℕ) → Needs table n (offset table n)
 unfolding offset

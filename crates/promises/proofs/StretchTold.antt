@@ -1,23 +1,26 @@
 -- The test of a row's stretch tells document 01's conditions on it, in both directions, where table and store passed before it. A row that is no
 -- since row has an empty stretch, which is right.
-use mathlib.Core.Bool.{false}
+use mathlib.Core.Bool.{Bool, false, Bool·beq}
 use mathlib.Core.List.{List, []}
 use mathlib.Core.Logic.{_⊎_, inl, inr, ⊎-elim}
 use mathlib.Core.Path.{_≡_, refl}
-use Prim.Native.Nat.{ℕ, zero, suc, _+_, _%_, _≤_, _<_}
+use Prim.Native.Nat.{ℕ, _+_, _%_, _≤_, _<_}
 use native.Mathlib.Omega.{arith}
+use lib.Dec.{eqb}
 use lib.ListN.{length, getD, List·getD-eq-default}
 use Rattle.meaning.specs.Interval.{endOf, _+End_}
 use Rattle.meaning.specs.Spans.{Span}
 use Rattle.meaning.specs.Sound.{lengthOf}
+use Rattle.meaning.proofs.SpansLaws.{le-or-lt}
 use Rattle.meaning.proofs.SoundLaws.{none-sound}
 use Rattle.meaning.specs.Figure.{figure}
 use Rattle.meaning.proofs.Tells.{Tells, tells-eqb, tells-same, tells-decided}
 use Rattle.rules.specs.Limits.{rowNumbers}
-use Rattle.rules.specs.Kinds.{stretch, xSinceY, kindAt, hasStretch}
+use Rattle.rules.specs.Kinds.{Kind, kinds, hasStretch}
 use Rattle.rules.specs.Rows.{rowsOf, fieldAt, numbersAt, ruleOf}
 use Rattle.rules.specs.Stretches.{spansOf, width}
 use Rattle.rules.specs.declared.numbers.Numbers.{Numbers}
+use Rattle.rules.proofs.KindsLaws.{kinds-pass, past-bare}
 use Rattle.rules.proofs.PassedLaws.{InRange}
 use Rattle.rules.proofs.StretchesLaws.{spans-by-column, stretch-before}
 use Rattle.monitor.specs.declared.record.Record.{Record}
@@ -29,32 +32,31 @@ use Rattle.spans.proofs.LayoutLaws.{Stored}
 use Rattle.spans.proofs.SoundTold.{sound-stored, stretch-told}
 use Rattle.monitor.proofs.EventLaws.{length-stretch}
 use Rattle.promises.specs.Conditions.{LengthRight, LimitsRight, Ready, IsSince, RowSound, StretchRight}
+use Rattle.promises.proofs.Deciding.{told-true, told-false, same-tells}
 use Rattle.promises.proofs.RangeLaws.{latest-storable}
 
--- "each since row owns its own stretch", and no other row.
-pub since-or-other : (n : Numbers) → IsSince n ⊎ (¬ IsSince n)
-since-or-other n = tells-decided (tells-eqb (n .kind) _)
+-- "each since row owns its own stretch", and no other row: one test over the lines of the table of kinds and their numbers. Past its end there is no
+-- stretch and no since row.
+abbrev sinceKind : ℕ → Bool
+sinceKind kind = eqb kind 6
 
-pub since-rule : (n : Numbers) → IsSince n → ruleOf n ≡ stretch xSinceY
-unfolding kindAt
-since-rule n since = rw since
+pub owns-told : (n : Numbers) → Tells (hasStretch (ruleOf n)) (IsSince n)
+owns-told n =
+    ⊎-elim
+    (λ past. rw (past-bare (n .kind) past) (record { sound = λ none. absurd none; complete = λ since. omega arith }))
+    (λ known.
+    same-tells (hasStretch (ruleOf n)) (sinceKind (n .kind))
+    (kinds-pass (λ (number : ℕ) (k : Kind). Bool·beq (hasStretch (k .rule)) (sinceKind number)) refl (n .kind) known) (tells-eqb (n .kind) _))
+    (le-or-lt (length kinds) (n .kind))
+
+pub since-or-other : (n : Numbers) → IsSince n ⊎ (¬ IsSince n)
+since-or-other n = tells-decided (owns-told n)
 
 pub other-rule : (n : Numbers) → ¬ IsSince n → hasStretch (ruleOf n) ≡ false
-unfolding kindAt
-other-rule n other = go (n .kind) refl
-  where
-    go : (kind : ℕ) → n .kind ≡ kind → hasStretch (ruleOf n) ≡ false
-    go zero e = rw e
-    go (suc zero) e = rw e
-    go (suc (suc zero)) e = rw e
-    go (suc (suc (suc zero))) e = rw e
-    go (suc (suc (suc (suc zero)))) e = rw e
-    go (suc (suc (suc (suc (suc zero))))) e = rw e
-    go (suc (suc (suc (suc (suc (suc zero)))))) e = absurd (other e)
-    go (suc (suc (suc (suc (suc (suc (suc kind))))))) e = rw e
+other-rule n other = told-false (owns-told n) other
 
 pub since-spans : (n : Numbers) → IsSince n → spansOf n ≡ figure (n .a) (endOf (n .b))
-since-spans n since = rw (since-rule n since)
+since-spans n since = rw (spans-by-column (ruleOf n) n, told-true (owns-told n) since)
 
 pub other-spans : (n : Numbers) → ¬ IsSince n → spansOf n ≡ 0
 other-spans n other = rw (spans-by-column (ruleOf n) n, other-rule n other)

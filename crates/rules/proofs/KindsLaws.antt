@@ -6,10 +6,10 @@ use mathlib.Core.Path.{_≡_, refl, sym, _∙_}
 use Prim.Native.Nat.{ℕ, zero, suc, _≤_, _<_}
 use native.Mathlib.Omega.{arith}
 use native.Mathlib.Nat.{le-of-suc-le-suc, not-suc-le-zero}
-use lib.ListN.{length, getD, List·getD-map}
+use lib.ListN.{length, getD, List·getD-map, List·getD-eq-default}
 use Rattle.meaning.proofs.Tells.{Tells, tells-ltb, tells-eqb, tells-and, tells-same}
 use Rattle.rules.specs.Limits.{maskBits}
-use Rattle.rules.specs.Kinds.{Rule, plain, stretch, Kind, kind, kinds, kindAt, hasStretch, columnsOf, plainOf, kindLine, fits}
+use Rattle.rules.specs.Kinds.{Rule, plain, stretch, Kind, kind, kinds, kindAt, hasStretch, ownsStretch, columnsOf, plainOf, kindLine, fits}
 use Rattle.rules.specs.declared.plain.Plain.{Plain}
 use Rattle.rules.specs.declared.plain.Plain.the-variants as Plain
 use Rattle.rules.specs.Rows.{ruleOf, feeder}
@@ -30,12 +30,14 @@ getD-any [] k d e h = absurd (not-suc-le-zero h)
 getD-any (a ∷ l) zero d e h = refl
 getD-any (a ∷ l) (suc k) d e h = getD-any l k d e (le-of-suc-le-suc h)
 
+-- What `kindAt` reads where a kind has no line.
+abbrev noLine : Kind
+noLine = kind Unused Unused Unused Unused (plain Plain.Truth)
+
 -- The code's table is the table of kinds, line by line.
 pub line-at : (k : ℕ) (other : KindLine) → k < length (map kindLine kinds) → getD (map kindLine kinds) k other ≡ kindLine (kindAt k)
 unfolding kindAt
-line-at k other h =
-    getD-any (map kindLine kinds) k other (kindLine (kind Unused Unused Unused Unused (plain Plain.Truth))) h
-    ∙ List·getD-map kindLine kinds k (kind Unused Unused Unused Unused (plain Plain.Truth))
+line-at k other h = getD-any (map kindLine kinds) k other (kindLine noLine) h ∙ List·getD-map kindLine kinds k noLine
 
 -- What a row says, by the column that tells whether it owns a stretch.
 pub owned-rule : (rule : Rule) → hasStretch rule ≡ true → rule ≡ stretch (columnsOf rule)
@@ -80,19 +82,25 @@ abbrev ruleRight : Kind → Rule → Bool
 ruleRight k (plain says) = plainRight k says
 ruleRight k (stretch columns) = keeperRight k (columns .keep) && feederRight k (columns .feed)
 
--- A test that every line of the table passes, computed over all of them, is passed by the line of each kind.
-abbrev every : (Kind → Bool) → List Kind → Bool
+-- A test of a number and its line, computed over all lines of the table, is passed by the line of each kind.
+abbrev every : (ℕ → Kind → Bool) → List Kind → Bool
 every test [] = true
-every test (k ∷ l) = test k && every test l
+every test (k ∷ l) = test 0 k && every (λ (n : ℕ). test (suc n)) l
 
-passed-at : (test : Kind → Bool) (l : List Kind) (n : ℕ) (other : Kind) → every test l ≡ true → n < length l → test (getD l n other) ≡ true
-passed-at test [] n other h lower = absurd (not-suc-le-zero lower)
-passed-at test (k ∷ l) zero other h lower = and-left (test k) (every test l) h
-passed-at test (k ∷ l) (suc n) other h lower = passed-at test l n other (and-right (test k) (every test l) h) (le-of-suc-le-suc lower)
+every-at : (test : ℕ → Kind → Bool) (l : List Kind) (n : ℕ) (other : Kind) → every test l ≡ true → n < length l → test n (getD l n other) ≡ true
+every-at test [] n other h lower = absurd (not-suc-le-zero lower)
+every-at test (k ∷ l) zero other h lower = and-left (test 0 k) (every (λ (n : ℕ). test (suc n)) l) h
+every-at test (k ∷ l) (suc n) other h lower =
+    every-at (λ (n : ℕ). test (suc n)) l n other (and-right (test 0 k) (every (λ (n : ℕ). test (suc n)) l) h) (le-of-suc-le-suc lower)
 
-pub kinds-pass : (test : Kind → Bool) → every test kinds ≡ true → (n : ℕ) → n < length kinds → test (kindAt n) ≡ true
+pub kinds-pass : (test : ℕ → Kind → Bool) → every test kinds ≡ true → (n : ℕ) → n < length kinds → test n (kindAt n) ≡ true
 unfolding kindAt
-kinds-pass test computed n lower = passed-at test kinds n _ computed lower
+kinds-pass test computed n lower = every-at test kinds n _ computed lower
+
+-- A kind that has no line has no stretch.
+pub past-bare : (n : ℕ) → length kinds ≤ n → ownsStretch n ≡ false
+unfolding kindAt
+past-bare n past = rw (List·getD-eq-default kinds noLine past)
 
 -- What a number that fits its use is.
 abbrev pub Fits : ℕ → Use → ℕ → Type 0
@@ -198,7 +206,7 @@ module _ (r : ℕ) (row : Numbers) (k : Kind) (fit : AllFit r k row) where
 -- The rows that a row speaks of are lower, for every kind of the table.
 pub names-lower : (r : ℕ) (row : Numbers) → RowFits r row → Names r row (ruleOf row)
 names-lower r row fits = rule-names r row (kindAt (row .kind)) (fits .all) (ruleOf row)
-    (kinds-pass (λ (k : Kind). ruleRight k (k .rule)) refl (row .kind) (fits .known))
+    (kinds-pass (λ (n : ℕ) (k : Kind). ruleRight k (k .rule)) refl (row .kind) (fits .known))
 
 -- x and y are no limits in any kind, so both are below every bound that is over 31 and not below the row.
 abbrev isLimit : Use → Bool
@@ -217,7 +225,7 @@ pub x-and-y-below : (r most : ℕ) (row : Numbers) → r ≤ most → maskBits �
 x-and-y-below r most row few wide fits =
     let k : Kind = kindAt (row .kind) in
     let both : (not (isLimit (k .x)) && not (isLimit (k .y))) ≡ true =
-    kinds-pass (λ (k : Kind). not (isLimit (k .x)) && not (isLimit (k .y))) refl (row .kind) (fits .known) in (
+    kinds-pass (λ (n : ℕ) (k : Kind). not (isLimit (k .x)) && not (isLimit (k .y))) refl (row .kind) (fits .known) in (
       no-limit-below r most (k .x) (row .x) few wide (and-left (not (isLimit (k .x))) (not (isLimit (k .y))) both) (fits .all .x),
       no-limit-below r most (k .y) (row .y) few wide (and-right (not (isLimit (k .x))) (not (isLimit (k .y))) both) (fits .all .y),
     )
