@@ -43,9 +43,9 @@ use Rattle.promises.proofs.Refusing.{Accepted, accepted-of}
 use Rattle.promises.proofs.UpdateLaws.{update-rising, update-in, sound-rising, clipped-under}
 
 -- What is taken of a test tells inside or outside, where the test tells inside.
-taken-in : (inside : Bool) {test : Bool} {Inside : Type 0} → Tells test Inside → T (taken not inside test) ↔ InOrOut inside Inside
-taken-in true told = (told .sound, told .complete)
-taken-in false told = (tells-not told .sound, tells-not told .complete)
+test-in-or-out : (inside : Bool) {test : Bool} {Inside : Type 0} → Tells test Inside → T (taken not inside test) ↔ InOrOut inside Inside
+test-in-or-out true told = (told .sound, told .complete)
+test-in-or-out false told = (tells-not told .sound, tells-not told .complete)
 
 module _
     (setup : Setup)
@@ -148,7 +148,7 @@ module _
     unfolding recordAfter truthOf
     now-true =
         rw (truth-told m (rowsOf (setup .table)) row lower (has-entry row lower), since)
-        (taken-in (columns .inside) (covered-told (m .time) (spansNow m row)))
+        (test-in-or-out (columns .inside) (covered-told (m .time) (spansNow m row)))
 
     now-laid : LaysOut (setup .table) row (storeAfter m (rowsOf (setup .table))) (recordAfter m) (spansNow m row)
     now-laid =

@@ -29,13 +29,13 @@ some-event : {e : Event} {h : History} → ¬ (_≡_ {A = History} (e ∷ h) [])
 some-event none = let z : _≡_ {A = ℕ} 0 1 = cc in omega arith
 
 -- A truth that says what is taken of a formula says whether the time is inside or outside, where inside tells the formula.
-taken-in : (inside : Bool) (φ : Formula) (h : History) (truth : Bool) (In? : Type 0)
+truth-in-or-out : (inside : Bool) (φ : Formula) (h : History) (truth : Bool) (In? : Type 0)
     → T truth ↔ Holds (taken Formula.negation inside φ) h
     → In? ↔ Holds φ h
     → T truth ↔ InOrOut inside In?
 unfolding Holds
-taken-in true φ h truth In? says means = (λ yes. means .1 (says .0 yes), λ is. says .1 (means .0 is))
-taken-in false φ h truth In? says means =
+truth-in-or-out true φ h truth In? says means = (λ yes. means .1 (says .0 yes), λ is. says .1 (means .0 is))
+truth-in-or-out false φ h truth In? says means =
     (λ yes is. says .0 yes (means .0 is), λ outside. says .1 (λ holds. outside (means .1 holds)))
 
 module _ (table : List ℕ) (row : ℕ) (columns : Stretch) where
@@ -50,7 +50,7 @@ module _ (table : List ℕ) (row : ℕ) (columns : Stretch) where
       → T truth ↔ InOrOut (columns .inside) (In (lastTime h) S)
   true-in-runs [] truth S some says runs = absurd (some refl)
   true-in-runs (e ∷ h) truth S some says runs =
-      taken-in (columns .inside) (sinceOf (formulaOf table) (numbersAt table row) columns) (e ∷ h) truth (In (e .time) S) says
+      truth-in-or-out (columns .inside) (sinceOf (formulaOf table) (numbersAt table row) columns) (e ∷ h) truth (In (e .time) S) says
       (runs-tell (keptBy Formula.truth (formulaOf table) (numbersAt table row) (columns .keep))
       (fedBy Formula.negation (formulaOf table) (numbersAt table row) columns) (numbersAt table row .a) (endOf (numbersAt table row .b)) (e ∷ h) S
       runs)
