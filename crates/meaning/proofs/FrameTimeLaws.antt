@@ -1,8 +1,9 @@
 -- The time of a frame is the one time with its counter in the turn from the last time on, and so the true time (document 01, "Lines from the board").
+use mathlib.Core.List.{List, [], _∷_}
 use mathlib.Core.Path.{_≡_, refl, sym}
-use Prim.Native.Nat.{ℕ, _+_, _-_, _≤_, _<_}
+use Prim.Native.Nat.{ℕ, _+_, _≤_, _<_}
 use native.Mathlib.Omega.{arith}
-use Rattle.meaning.specs.FrameTime.{turn, counterOf, frameTime}
+use Rattle.meaning.specs.FrameTime.{turn, counterOf, frameTime, Close, TrueTimes}
 
 -- The time is not below the last time, it is less than a turn after it, and the counter is its low sixteen bits.
 pub frame-time-is : (last counter : ℕ) → counter < turn
@@ -20,6 +21,13 @@ pub first-frame-time : (counter : ℕ) → counter < turn → frameTime 0 counte
 unfolding frameTime
 first-frame-time counter sixteen-bits = omega arith
 
--- A true time that did not fall, after a gap of less than a turn, is the time of its frame.
-pub frame-time-true : (last time : ℕ) → last ≤ time → time - last < turn → frameTime last (counterOf time) ≡ time
-frame-time-true last time risen gap = sym (frame-time-only last (counterOf time) time risen (omega arith) refl)
+-- True times go on from 0.
+pub true-close : (times : List ℕ) → TrueTimes times → Close 0 times
+unfolding TrueTimes Close
+true-close [] true-times = tt
+true-close (time ∷ times) (first, close) = (omega arith, omega arith, close)
+
+-- Where true times go on from the last time, the next frame has its true time.
+pub next-true : (last time : ℕ) (times : List ℕ) → Close last (time ∷ times) → frameTime last (counterOf time) ≡ time
+unfolding Close
+next-true last time times (risen, gap, close) = sym (frame-time-only last (counterOf time) time risen (omega arith) refl)

@@ -3,12 +3,12 @@
 use mathlib.Core.Bool.{cond}
 use mathlib.Core.List.{List, [], _∷_, _++_, map}
 use mathlib.Core.Path.{_≡_, refl, sym, ap, subst, _∙_}
-use Prim.Native.Nat.{ℕ, _-_, _≤_, _<_}
+use Prim.Native.Nat.{ℕ, _≤_}
 use native.Mathlib.Omega.{arith}
 use lib.Dec.{T}
-use Rattle.meaning.specs.FrameTime.{turn, counterOf, Close, TrueTimes}
+use Rattle.meaning.specs.FrameTime.{counterOf, Close}
 use Rattle.meaning.specs.History.{History, lastTime}
-use Rattle.meaning.proofs.FrameTimeLaws.{frame-time-true}
+use Rattle.meaning.proofs.FrameTimeLaws.{true-close, next-true}
 use Rattle.refusals.specs.Refusals.{Refused}
 use Rattle.times.specs.Times.{timeLimit}
 use Rattle.monitor.specs.Step.{Call, event, frame, timeOf, Reply, verdict, refusal}
@@ -20,12 +20,6 @@ use Rattle.promises.proofs.Invariant.{Invariant}
 use Rattle.promises.proofs.StreamLaws.{keeps-cases}
 use Rattle.promises.proofs.StartRight.{start-right}
 use Rattle.promises.proofs.CallKept.{kept-reply, only-kept, next-kept}
-
--- True times go on from 0.
-true-close : (times : List ℕ) → TrueTimes times → Close 0 times
-unfolding TrueTimes Close
-true-close [] true-times = tt
-true-close (time ∷ times) (first, close) = (omega arith, omega arith, close)
 
 -- Call by call, the counter of a frame is that of its true time.
 data Counted : List Call → List ℕ → Type 0 where
@@ -90,13 +84,14 @@ module _ {table : List ℕ} {h : History} {s : State} (inv : Invariant table h (
       (λ over. refl)
       (λ within below. refl)
 
-  -- A frame with the counter of a time that did not fall, after a gap of less than a turn: its time is that time, and where it is kept, the record's.
-  module _ (counter mask time : ℕ) (same : counter ≡ counterOf time) (risen : lastTime h ≤ time) (gap : time - lastTime h < turn) where
+  -- A frame with the counter of the next true time: its time is that time, and where it is kept, the record's.
+  module _ (counter mask time : ℕ) (times : List ℕ) (same : counter ≡ counterOf time) (close : Close (lastTime h) (time ∷ times)) where
     is-true : timeOf (lastTime h) (frame counter mask) ≡ time
-    is-true = rw same (frame-time-true (lastTime h) time risen gap)
+    is-true = rw same (next-true (lastTime h) time times close)
 
     keeps : time ≤ timeLimit → Keeps (lastTime h) (frame counter mask)
-    keeps within = record { within = omega (arith, is-true); risen = omega (arith, is-true) }
+    unfolding Close
+    keeps within = record { within = omega (arith, is-true); risen = omega (arith, is-true, close .0) }
 
     moves : Keeps (lastTime h) (frame counter mask) → lastTime (heard h (frame counter mask)) ≡ time
     moves kept = ap lastTime (heard-kept h (frame counter mask) kept) ∙ is-true
@@ -121,14 +116,14 @@ module _ (table : List ℕ) where
   all-true {h} inv only (an-event {time} {mask} {calls} {times} others) close within =
       all-true (on inv (event time mask)) (only-later h (event time mask) calls only) others
       (subst (λ (last : ℕ). Close last times) (sym (event-stays h time mask calls only)) close) within
-  all-true {h} {s} inv only (a-frame {counter} {mask} {time} {calls} {times} same others) (risen, gap, close) (early, within) =
+  all-true {h} {s} inv only (a-frame {counter} {mask} {time} {calls} {times} same others) close (early, within) =
       let c = frame counter mask in
-      let kept = keeps inv counter mask time same risen gap early in
+      let kept = keeps inv counter mask time times same close early in
       let rest : AllTrue (next table s c) calls times =
       all-true (on inv c) (only-later h c calls only) others
-      (subst (λ (last : ℕ). Close last times) (sym (moves inv counter mask time same risen gap kept)) close) within
+      (subst (λ (last : ℕ). Close last times) (sym (moves inv counter mask time times same close kept)) (close .2)) within
       in
-      ((rw (kept-reply inv c kept) tt, rest .0), rw (timed inv counter mask time same risen gap kept, rest .1))
+      ((rw (kept-reply inv c kept) tt, rest .0), rw (timed inv counter mask time times same close kept, rest .1))
 
   -- Where the times of those that are accepted go on from the clock, the record has them.
   abbrev AcceptedTrue : List Call → List ℕ → Type 0
@@ -167,10 +162,11 @@ module _ (table : List ℕ) where
           → Close (lastTime h) (acceptedTimes answered (time ∷ times))
           → acceptedTimes answered (ofFrames (c ∷ calls) (recordTimes table s (c ∷ calls))) ≡ acceptedTimes answered (time ∷ times)
       go (verdict holds) e close =
-          let (risen, gap, further) = rw e at close in
+          let accepted = acceptedTimes (ofFrames calls (replies table (next table s c) calls)) times in
+          let goes-on : Close (lastTime h) (time ∷ accepted) = rw e at close in
           let kept = only-kept inv c holds e in
-          rw (e, timed inv counter mask time same risen gap kept)
-          (ap (λ (rest : List ℕ). time ∷ rest) (later time (moves inv counter mask time same risen gap kept) further))
+          rw (e, timed inv counter mask time accepted same goes-on kept)
+          (ap (λ (rest : List ℕ). time ∷ rest) (later time (moves inv counter mask time accepted same goes-on kept) (goes-on .2)))
       go (refusal fault) e close = rw e (later (lastTime h) (ap lastTime (heard-refused inv c e)) (rw e at close))
 
   accepted-true : {calls : List Call} {times : List ℕ} → Counted calls times → AcceptedTrue calls times
