@@ -37,12 +37,16 @@ holds-more h line byte holds =
     let below : h .count < lineLimit = ltb-true _ _ room in
     let short : length line ≤ lineLimit = omega arith in
     let within : h .count < length (h .bytes) = rw (holds .size) below in
-    let stored : take (h .count + 1) (set (h .bytes) (h .count) byte) ≡ take (h .count) (h .bytes) ++ (byte ∷ []) = rw add-one (take-suc-set (h .bytes) (h .count) byte within) in
+    let stored : take (h .count + 1) (set (h .bytes) (h .count) byte) ≡ take (h .count) (h .bytes) ++ (byte ∷ []) =
+    rw add-one (take-suc-set (h .bytes) (h .count) byte within) in
     rw room
     (record {
       size = simp length-set (holds .size);
       count = omega arith;
-      bytes = stored ∙ ap (λ (l : List ℕ). l ++ (byte ∷ [])) (holds .bytes ∙ take-all lineLimit line short) ∙ sym (take-all lineLimit (line ++ (byte ∷ [])) (omega arith));
+      bytes =
+          stored
+          ∙ ap (λ (l : List ℕ). l ++ (byte ∷ [])) (holds .bytes ∙ take-all lineLimit line short)
+          ∙ sym (take-all lineLimit (line ++ (byte ∷ [])) (omega arith));
     }))
     (λ full.
     let past : lineLimit ≤ h .count = ltb-false _ _ full in

@@ -1,4 +1,5 @@
--- Lines joined to a text, and the text's lines again. Those of a text stay its lines where some are left out: only the last can be without a line feed.
+-- Lines joined to a text, and the text's lines again. Those of a text stay its lines where some are left out: only the last can be without
+-- a line feed.
 use mathlib.Core.Bool.{Bool, true, false}
 use mathlib.Core.List.{List, [], _∷_, _++_, flatten, append-nil, append-assoc, cons-ne-nil}
 use mathlib.Core.Path.{_≡_, refl, sym, ap, _∙_}
@@ -86,7 +87,11 @@ module _ {State Answer : Type 0} (m : Machine State (List ℕ) Answer) where
       go true e more = rw e (stands-on line lines (others m (m .left s line) lines) (no-others (m .left s line) lines) (are .0), more)
       go false e more = rw e more
 
-pub lines-then : (heads rest other : List (List ℕ)) → AreLines (heads ++ rest) → (rest ≡ [] → other ≡ []) → AreLines other → AreLines (heads ++ other)
+pub lines-then : (heads rest other : List (List ℕ))
+    → AreLines (heads ++ rest)
+    → (rest ≡ [] → other ≡ [])
+    → AreLines other
+    → AreLines (heads ++ other)
 lines-then [] rest other are none more = more
 lines-then (line ∷ heads) rest other are none more =
     (stands-on line (heads ++ rest) (heads ++ other) (no-more heads) (are .0), lines-then heads rest other (are .1) none more)

@@ -20,7 +20,8 @@ use Rattle.promises.proofs.Verdicts.{truths-are-meaning, verdict-is-meaning}
 use Rattle.lines.specs.Lines.{linesOf}
 use Rattle.text.specs.Replies.{needLine}
 use Rattle.text.specs.Transcript.{emptyStore, Running, replyOf, frameReply, frameLeaves, framesFrom, tableThen, rulesFrom, transcript}
-use Rattle.text_promises.specs.Meaning.{FrameMeant, LineMeant, callsAfter, LinesMeant, RulesThen, emptyLine, ruleLine, TranscriptTellsTheMeaning}
+use Rattle.text_promises.specs.Meaning.{FrameMeant, LineMeant, callsAfter, LinesMeant, RulesThen, emptyLine, ruleLine}
+use Rattle.text_promises.specs.Meaning.{TranscriptTellsTheMeaning}
 
 -- What the monitor has after the calls so far.
 abbrev pub runningAfter : List ℕ → List Call → Running

@@ -24,7 +24,8 @@ use Rattle.text.specs.Transcript.{emptyStore, Running, replyOf, frameReply, fra
 use Rattle.text_promises.specs.Meaning.{RulesThen, emptyLine, ruleLine}
 use Rattle.text_promises.specs.TextGoesOn.{readAlone, Told, frameLines, shown, outputOf, told, unrefusedLines, WithoutRefused, TextGoesOn}
 use Rattle.text_promises.proofs.Meaning.{frames-follow}
-use Rattle.text_promises.proofs.JoinedLaws.{flatten-append, lines-joined, AreLines, joined-lines, text-lines, no-others, others-lines, rest-lines, lines-then}
+use Rattle.text_promises.proofs.JoinedLaws.{flatten-append, lines-joined, AreLines, joined-lines, text-lines}
+use Rattle.text_promises.proofs.JoinedLaws.{no-others, others-lines, rest-lines, lines-then}
 
 -- A refused line leaves the state.
 refused-left : (table : List ℕ) (s : State) (line : List ℕ)
@@ -54,7 +55,8 @@ module _ (table : List ℕ) (s : State) (line : List ℕ) where
 
   line-shown : (said : LineReply) → frameReply (running table s) said ≡ shown (answerTo s r said) (leftBy s r said .found .time)
   line-shown atEnd = refl
-  line-shown (goodLine given) = rw (take-length (s .store)) (reply-shown (next table s (frameOf given) .found .time) (call table s (frameOf given) .reply))
+  line-shown (goodLine given) =
+      rw (take-length (s .store)) (reply-shown (next table s (frameOf given) .found .time) (call table s (frameOf given) .reply))
   line-shown (badLine fault) = refl
 
   line-left : (said : LineReply) → frameLeaves (running table s) said ≡ running table (leftBy s r said)
@@ -68,7 +70,8 @@ module _ (table : List ℕ) (s : State) (line : List ℕ) where
 abbrev shownAll : List Told → List ℕ
 shownAll tolds = flatten (map (λ (told : Told). shown (told .answer) (told .time)) tolds)
 
-frames-told : (table : List ℕ) (s : State) (lines : List (List ℕ)) → framesFrom (running table s) lines ≡ shownAll (answers (frameLines table) s lines)
+frames-told : (table : List ℕ) (s : State) (lines : List (List ℕ))
+    → framesFrom (running table s) lines ≡ shownAll (answers (frameLines table) s lines)
 unfolding framesFrom answers flatten
 frames-told table s [] = refl
 frames-told table s (line ∷ lines) =
