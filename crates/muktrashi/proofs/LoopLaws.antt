@@ -2,7 +2,7 @@
 use mathlib.Core.Bool.{true, false}
 use mathlib.Core.List.{List, [], _∷_, _++_}
 use mathlib.Core.Path.{_≡_, refl, sym, ap, _∙_}
-use Prim.Native.Nat.{ℕ, _+_, _<_}
+use Prim.Native.Nat.{ℕ, _+_, _≤_, _<_}
 use native.Mathlib.Omega.{arith}
 use lib.ListN.{length, take, length-append}
 use lib.Seq.{take-length}
@@ -10,11 +10,12 @@ use Rattle.text.specs.declared.feed.Fed.{Fed}
 use Rattle.text.specs.declared.state.State.{State}
 use Rattle.text.specs.Replies.{Wrote}
 use Rattle.text.specs.Transcript.{emptyStore}
-use Rattle.text.specs.Feed.{Memory, pieceFed, memoryOf, fresh, textEnd, Stepped}
+use Rattle.text.specs.Feed.{Memory, pieceFed, memoryOf, fresh, textEnd, stepFed, Stepped}
 use Rattle.text.specs.Course.{Lent, course}
 use Rattle.text.proofs.CourseLaws.{left-more, taken-more, joined-more}
-use Rattle.text.proofs.WroteLaws.{wrote-begins}
-use Rattle.muktrashi.specs.Loop.{NoneEmpty, Went, Looped}
+use Rattle.text.proofs.ShortLaws.{step-all}
+use Rattle.text.proofs.WroteLaws.{wrote-fits, wrote-begins}
+use Rattle.muktrashi.specs.Loop.{ReadyForWhole, TakenWhole, NoneEmpty, Went, Looped}
 
 pub went-first : (table store : List ℕ) (state : State) → state ≡ fresh → store ≡ emptyStore → Went table 0 state table store
 unfolding course
@@ -29,26 +30,36 @@ none-empty-more : (lents : List Lent) (lent : Lent) → NoneEmpty lents → 0 < 
 none-empty-more [] lent none some = (some, tt)
 none-empty-more (first ∷ lents) lent none some = (none .0, none-empty-more lents lent (none .1) some)
 
+-- A step that is ready for its whole piece takes it whole, and what it wrote fits.
+module _ (state : State) (table store piece out : List ℕ) (fed : Fed) (table′ store′ after : List ℕ) where
+  pub taken-whole : ReadyForWhole state table piece out → Stepped state table store piece out fed table′ store′ after
+      → TakenWhole state table store piece out fed table′ store′ after
+  taken-whole ready stepped =
+      let all = step-all (memoryOf state table store) (length out) piece (ready .counted) (ready .rows) (ready .lines) in
+      record { whole = stepped .used ∙ all; stepped = stepped }
+
+  pub whole-fits : TakenWhole state table store piece out fed table′ store′ after → length after ≡ length out → fed .wrote ≤ length after
+  whole-fits taken same = wrote-fits out (stepFed state table store piece out .text) (fed .wrote) after (taken .stepped .wrote) same
+
 pub went-on : (lent-table : List ℕ) (turns : ℕ) (state : State) (table store piece out : List ℕ) (fed : Fed) (table′ store′ after : List ℕ)
     → Went lent-table turns state table store
     → 0 < length piece
-    → fed .used ≡ length piece
-    → Stepped (memoryOf state table store) piece out fed table′ store′ after
+    → TakenWhole state table store piece out fed table′ store′ after
     → Went lent-table (turns + 1) (fed .state) table′ store′
-went-on lent-table turns state table store piece out fed table′ store′ after went some whole stepped =
+went-on lent-table turns state table store piece out fed table′ store′ after went some taken =
     let m : Memory = memoryOf fresh lent-table emptyStore in
     let lents : List Lent = went .lents in
     let lent : Lent = record { piece = piece; room = length out } in
     let pieces : length lents ≡ turns = went .pieces in
     let used : pieceFed (course m lents .left) (length out) piece .used ≡ length piece =
-    ap (λ (m : Memory). pieceFed m (length out) piece .used) (sym (went .left)) ∙ sym (stepped .used) ∙ whole in
+    ap (λ (m : Memory). pieceFed m (length out) piece .used) (sym (went .left)) ∙ sym (taken .stepped .used) ∙ taken .whole in
     let all : take (pieceFed (course m lents .left) (length out) piece .used) piece ≡ piece = rw used (take-length piece) in
     record {
       lents = lents ++ (lent ∷ []);
       pieces = length-append lents (lent ∷ []) ∙ ap (λ (n : ℕ). n + 1) pieces;
       none-empty = none-empty-more lents lent (went .none-empty) some;
       taken = taken-more m lents lent ∙ rw (went .taken, all) (sym (joined-more lents lent));
-      left = stepped .left ∙ ap (λ (m : Memory). pieceFed m (length out) piece .left) (went .left) ∙ sym (left-more m lents lent);
+      left = taken .stepped .left ∙ ap (λ (m : Memory). pieceFed m (length out) piece .left) (went .left) ∙ sym (left-more m lents lent);
     }
 
 -- The answer, by whether the loop ended at the text's end.

@@ -1,2 +1,2 @@
--- What the program's loop comes to.
+-- What the program's loop asks for, and what it comes to.
 pub mod Loop

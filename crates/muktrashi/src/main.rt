@@ -1,14 +1,11 @@
 // The text program: standard input to standard output, nothing else (document 01, "The program's text"). It reads what is there, judges every
 // whole line, writes, and only then waits again. Its memory is fixed.
 
-ghost use mathlib.Core.Path.{_≡_};
-ghost use Prim.Native.Nat.{_*_, _≤_, _<_};
+ghost use Prim.Native.Nat.{_≤_};
 ghost use lib.ListN.{length};
-ghost use Rattle.rules.specs.Limits.{rowLimit, rowNumbers};
 ghost use Rattle.text.specs.Replies.{longestReply, Wrote};
-ghost use Rattle.text.specs.Transcript.{emptyStore};
-ghost use Rattle.text.specs.Feed.{memoryOf, Stepped, textEnd};
-ghost use Rattle.muktrashi.specs.Loop.{Looped};
+ghost use Rattle.text.specs.Feed.{textEnd};
+ghost use Rattle.muktrashi.specs.Loop.{Lends, ReadyForWhole, TakenWhole, Looped};
 use libc::STDIN_FILENO;
 use libc::STDOUT_FILENO;
 use rules::limits::ROW_LIMIT;
@@ -45,7 +42,7 @@ struct Ran {
 
 // A proved loop has to end, and nothing says that a text does: it counts its turns, up to a number that no run reaches.
 fn run(table: &mut [u32], store: &mut [u64], piece: &mut [u8], out: &mut [u8]) -> Ran
-    requires { ⌜ (rowLimit * rowNumbers ≤ length (now table)) × (now store ≡ emptyStore) × (0 < length (now piece)) × (longestReply * length (now piece) ≤ length (now out)) ⌝ }
+    requires { ⌜ Lends (now table) (now store) (now piece) (now out) ⌝ }
     ensures { λ r. ⌜ Looped (now (table .entry)) r (now (table .exit)) (now (store .exit)) (now (out .exit)) ⌝ }
 {
     let mut state = fresh();
@@ -89,8 +86,9 @@ fn take_whole(
     piece: &[u8],
     out: &mut [u8],
 ) -> Fed
-    requires { ⌜ (state .stage .rows ≤ rowLimit) × (rowLimit * rowNumbers ≤ length (now table)) × (longestReply * length (now piece) ≤ length (now out)) ⌝ }
-    ensures { λ r. ⌜ (r .used ≡ length (now (piece .entry))) × Stepped (memoryOf state (now (table .entry)) (now (store .entry))) (now (piece .entry)) (now (out .entry)) r (now (table .exit)) (now (store .exit)) (now (out .exit)) ⌝ }
+    requires { ⌜ ReadyForWhole state (now table) (now piece) (now out) ⌝ }
+    ensures { λ r. ⌜ TakenWhole state (now (table .entry)) (now (store .entry)) (now (piece .entry)) (now (out .entry))
+        r (now (table .exit)) (now (store .exit)) (now (out .exit)) ⌝ }
 {
     step(state, table, store, piece, out)
 }

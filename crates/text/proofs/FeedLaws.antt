@@ -15,10 +15,11 @@ use Rattle.lines.specs.Digits.{byteAt, overwritten}
 use Rattle.lines.specs.Line.{lineFeed}
 use Rattle.text.specs.Replies.{longestReply, Wrote}
 use Rattle.text.specs.declared.state.Held.{Held}
+use Rattle.text.specs.declared.state.State.{State}
 use Rattle.text.specs.declared.turn.Told.{Told}
 use Rattle.text.specs.Held.{heldLine, holding, emptied}
 use Rattle.text.specs.Turn.{Desk, Turn, desk, lineTurn, Turned}
-use Rattle.text.specs.Feed.{Memory, lineEnd, byteLeaves, byteText, Feeding, noFeeding, andThen, feed, ready?, pieceFed, stateIn, Stepped}
+use Rattle.text.specs.Feed.{Memory, byteLeaves, byteText, Feeding, noFeeding, andThen, feed, ready?, pieceFed, stepFed, memoryOf, stateIn, Stepped}
 use Rattle.meaning.proofs.Truths.{by-test}
 use Rattle.lines.proofs.OverLaws.{over-over, over-none, over-fits}
 use Rattle.text.proofs.WroteLaws.{wrote-none}
@@ -53,14 +54,16 @@ ready-parts rows size both =
     let room : Bool = leb (rowLimit * rowNumbers) size in
     (leb-true _ _ (and-left few room both), leb-true _ _ (and-right few room both))
 
-pub step-left : (m : Memory) (piece out : List ℕ) → ready? m ≡ false
-    → Stepped m piece out (record { state = stateIn m; used = 0; wrote = 0 }) (m .desk .table) (m .desk .store) out
+pub step-left : (state : State) (table store piece out : List ℕ) → ready? (memoryOf state table store) ≡ false
+    → Stepped state table store piece out (record { state = state; used = 0; wrote = 0 }) table store out
 unfolding pieceFed
-step-left m piece out not =
-    let nothing : pieceFed m (length out) piece ≡ noFeeding m = rw not in
+step-left state table store piece out not =
+    let nothing : stepFed state table store piece out ≡ noFeeding (memoryOf state table store) = rw not in
     record { left = rw nothing; used = rw nothing; wrote = rw nothing (wrote-none out 0) }
 
-pub step-ready : (m : Memory) (room : ℕ) (piece : List ℕ) → m .desk .stage .rows ≤ rowLimit → rowLimit * rowNumbers ≤ length (m .desk .table)
+pub step-ready : (m : Memory) (room : ℕ) (piece : List ℕ)
+    → m .desk .stage .rows ≤ rowLimit
+    → rowLimit * rowNumbers ≤ length (m .desk .table)
     → pieceFed m room piece ≡ feed m room piece
 unfolding pieceFed
 step-ready m room piece rows size = rw (le-leb _ _ rows, le-leb _ _ size)
@@ -76,7 +79,9 @@ module _ (m : Memory) (room : ℕ) (piece : List ℕ) (used : ℕ) where
   feed-full more full = rw (drop-cons piece used 0 more) (rw (lt-ltb _ _ full))
 
   feed-more : used < length piece → longestReply ≤ room
-      → feed m room (drop used piece) ≡ andThen (byteText m (byteAt piece used)) (feed (byteLeaves m (byteAt piece used)) (room - length (byteText m (byteAt piece used))) (drop (used + 1) piece))
+      → feed m room (drop used piece)
+      ≡ andThen (byteText m (byteAt piece used))
+      (feed (byteLeaves m (byteAt piece used)) (room - length (byteText m (byteAt piece used))) (drop (used + 1) piece))
   unfolding feed
   feed-more more free = rw (drop-cons piece used 0 more, add-one used) (rw (le-ltb _ _ free))
 
@@ -116,7 +121,9 @@ feed-rows m room (byte ∷ piece) most =
     by-test (ltb room longestReply) (λ full. rw full most)
     (λ free. rw free (feed-rows (byteLeaves m byte) (room - length (byteText m byte)) piece (byte-rows m byte most)))
 
-pub step-rows : (m : Memory) (room : ℕ) (piece : List ℕ) → m .desk .stage .rows ≤ rowLimit → pieceFed m room piece .left .desk .stage .rows ≤ rowLimit
+pub step-rows : (m : Memory) (room : ℕ) (piece : List ℕ)
+    → m .desk .stage .rows ≤ rowLimit
+    → pieceFed m room piece .left .desk .stage .rows ≤ rowLimit
 unfolding pieceFed
 step-rows m room piece most =
     by-test (ready? m) (λ ready. rw ready (feed-rows m room piece most)) (λ not. rw not most)
@@ -131,7 +138,9 @@ pub record Going (first : Memory) (piece before : List ℕ) (m : Memory) (out : 
   pub same-store : length (m .desk .store) ≡ length (first .desk .store)
   pub same-out : length out ≡ length before
 
-pub going-first : (first : Memory) (piece before : List ℕ) → first .desk .stage .rows ≤ rowLimit → rowLimit * rowNumbers ≤ length (first .desk .table)
+pub going-first : (first : Memory) (piece before : List ℕ)
+    → first .desk .stage .rows ≤ rowLimit
+    → rowLimit * rowNumbers ≤ length (first .desk .table)
     → Going first piece before first before 0 0
 going-first first piece before most size =
     let whole : length before - 0 ≡ length before = omega arith in
@@ -145,12 +154,23 @@ going-first first piece before most size =
       same-out = refl;
     }
 
-module _ (first : Memory) (piece before : List ℕ) (m : Memory) (out : List ℕ) (used wrote : ℕ) (going : Going first piece before m out used wrote) where
+module _
+    (first : Memory)
+    (piece before : List ℕ)
+    (m : Memory)
+    (out : List ℕ)
+    (used wrote : ℕ)
+    (going : Going first piece before m out used wrote) where
+  -- What the piece brings in all.
+  abbrev whole : Feeding
+  whole = pieceFed first (length before) piece
+
   -- Nothing more can be done: no byte is left, or no room.
   pub going-ends : feed m (length out - wrote) (drop used piece) ≡ noFeeding m
-      → Stepped first piece before (record { state = record { held = m .held; stage = m .desk .stage }; used = used; wrote = wrote }) (m .desk .table) (m .desk .store) out
+      → Stepped (stateIn first) (first .desk .table) (first .desk .store) piece before
+      (record { state = stateIn m; used = used; wrote = wrote }) (m .desk .table) (m .desk .store) out
   going-ends none =
-      let done = owing-none (pieceFed first (length before) piece) before m out used wrote (rw none at (going .owing)) in
+      let done = owing-none whole before m out used wrote (rw none at (going .owing)) in
       record { left = done .0; used = done .1; wrote = done .2 }
 
   module _ (more : used < length piece) (free : longestReply ≤ length out - wrote) where
@@ -164,7 +184,7 @@ module _ (first : Memory) (piece before : List ℕ) (m : Memory) (out : List ℕ
         let text : byteText m (byteAt piece used) ≡ [] = rw test in
         let wrote-none : Wrote out wrote (byteText m (byteAt piece used)) wrote out = rw text (wrote-none out wrote) in
         record {
-          owing = rw leaves at (owing-on (pieceFed first (length before) piece) before m piece out used wrote out wrote (going .owing) more free wrote-none refl);
+          owing = rw leaves at (owing-on whole before m piece out used wrote out wrote (going .owing) more free wrote-none refl);
           used-within = omega arith;
           wrote-within = going .wrote-within;
           rows = going .rows;
@@ -175,24 +195,26 @@ module _ (first : Memory) (piece before : List ℕ) (m : Memory) (out : List ℕ
 
     -- A line feed.
     pub going-line : byteAt piece used ≡ lineFeed → (held : Held) → held ≡ holding (m .held) (byteAt piece used)
-        → (told : Told) (table store after : List ℕ) → Turned (lineTurn (m .desk) (heldLine held)) out wrote told table store after
+        → (told : Told) (table store after : List ℕ)
+        → Turned (lineTurn (heldLine held)) (m .desk .stage) (m .desk .table) (m .desk .store) out wrote told table store after
         → length table ≡ length (m .desk .table) → length store ≡ length (m .desk .store) → length after ≡ length out
         → (next : Held) → next ≡ emptied held
         → Going first piece before (record { held = next; desk = desk (told .stage) table store }) after (used + 1) (told .place)
     unfolding byteLeaves byteText
     going-line feed-byte held is told table store after turned same-table same-store same-out next empty =
         let test : eqb (byteAt piece used) lineFeed ≡ true = eq-eqb _ _ feed-byte in
-        let turn : Turn = lineTurn (m .desk) (heldLine held) in
-        let line : lineEnd m (byteAt piece used) ≡ turn = rw is in
-        let leaves : byteLeaves m (byteAt piece used) ≡ record { held = next; desk = desk (told .stage) table store } = rw (test, empty, turned .left, is) in
+        let turn : Turn = lineTurn (heldLine held) (m .desk) in
+        let leaves : byteLeaves m (byteAt piece used) ≡ record { held = next; desk = desk (told .stage) table store } =
+        rw (test, empty, turned .left, is) in
         let text : byteText m (byteAt piece used) ≡ turn .text = rw (test, is) in
         let wrote-line : Wrote out wrote (byteText m (byteAt piece used)) (told .place) after = rw text (turned .wrote) in
         let place : told .place ≡ wrote + length (turn .text) = turned .wrote .place-after in
-        let fits : wrote + length (turn .text) ≤ length out = over-fits out wrote (going .wrote-within) (turn .text) (sym (ap length (turned .wrote .bytes)) ∙ same-out) in
+        let same-length : length (overwritten out wrote (turn .text)) ≡ length out = sym (ap length (turned .wrote .bytes)) ∙ same-out in
+        let fits : wrote + length (turn .text) ≤ length out = over-fits out wrote (going .wrote-within) (turn .text) same-length in
         let stage : told .stage .rows ≡ turn .left .stage .rows = ap (λ (d : Desk). d .stage .rows) (turned .left) in
         let most : turn .left .stage .rows ≤ rowLimit = turn-rows (m .desk) (heldLine held) (going .rows) in
         record {
-          owing = rw leaves at (owing-on (pieceFed first (length before) piece) before m piece out used wrote after (told .place) (going .owing) more free wrote-line same-out);
+          owing = rw leaves at (owing-on whole before m piece out used wrote after (told .place) (going .owing) more free wrote-line same-out);
           used-within = omega arith;
           wrote-within = omega arith;
           rows = omega arith;

@@ -24,16 +24,17 @@ pub record SameStep (fed fed′ : Fed) (table table′ store store′ after afte
   pub words : store ≡ store′
   pub output : after ≡ after′
 
-pub one-step : (m : Memory) (piece out : List ℕ) (fed fed′ : Fed) (table table′ store store′ after after′ : List ℕ)
-    → Stepped m piece out fed table store after → Stepped m piece out fed′ table′ store′ after′
-    → SameStep fed fed′ table table′ store store′ after after′
-one-step m piece out fed fed′ table table′ store store′ after after′ s s′ =
-    let left : memoryOf (fed .state) table store ≡ memoryOf (fed′ .state) table′ store′ = s .left ∙ sym (s′ .left) in
-    let state : fed .state ≡ fed′ .state = ap stateIn left in
-    let used : fed .used ≡ fed′ .used = s .used ∙ sym (s′ .used) in
-    let written = one-writing out 0 _ (fed .wrote) (fed′ .wrote) after after′ (s .wrote) (s′ .wrote) in
+pub one-step : (state : State) (table store piece out : List ℕ) (fed fed″ : Fed) (table′ table″ store′ store″ after after″ : List ℕ)
+    → Stepped state table store piece out fed table′ store′ after
+    → Stepped state table store piece out fed″ table″ store″ after″
+    → SameStep fed fed″ table′ table″ store′ store″ after after″
+one-step state table store piece out fed fed″ table′ table″ store′ store″ after after″ s s″ =
+    let left : memoryOf (fed .state) table′ store′ ≡ memoryOf (fed″ .state) table″ store″ = s .left ∙ sym (s″ .left) in
+    let state-left : fed .state ≡ fed″ .state = ap stateIn left in
+    let used : fed .used ≡ fed″ .used = s .used ∙ sym (s″ .used) in
+    let written = one-writing out 0 _ (fed .wrote) (fed″ .wrote) after after″ (s .wrote) (s″ .wrote) in
     record {
-      answer = λ i. record { state = state i; used = used i; wrote = written .0 i };
+      answer = λ i. record { state = state-left i; used = used i; wrote = written .0 i };
       numbers = ap (λ (m : Memory). m .desk .table) left;
       words = ap (λ (m : Memory). m .desk .store) left;
       output = written .1;

@@ -45,7 +45,7 @@ start-short : (need : ℕ) (fault : Option Refused) → length (startText need f
 start-short need none = reply-short 0 0 needDigits need (omega arith)
 start-short need (some fault) = refused-short fault
 
-rule-short : (d : Desk) (said : LineReply) → length (ruleTurn d said .text) ≤ longestReply
+rule-short : (d : Desk) (said : LineReply) → length (ruleTurn said d .text) ≤ longestReply
 rule-short d atEnd = omega arith
 rule-short d (goodLine given) = omega arith
 rule-short d (badLine fault) = refusal-short (fault .number) (d .stage .rows)
@@ -59,7 +59,7 @@ frame-short s atEnd = omega arith
 frame-short s (goodLine given) = answer-short (frameJudged s (frameOf given) .left .time) (frameJudged s (frameOf given) .reply)
 frame-short s (badLine fault) = refused-short fault
 
-turn-short-in : (part : Part) (d : Desk) (line : List ℕ) → length (turnIn part d line .text) ≤ longestReply
+turn-short-in : (part : Part) (d : Desk) (line : List ℕ) → length (turnIn part line d .text) ≤ longestReply
 unfolding beforeFrames
 turn-short-in Rules d line =
     by-test (eqb (byteAt line 0) lineFeed) (λ empty. rw empty (start-short (needOf (rowsRead d)) (startOf (rowsRead d) (d .store) .refusal)))
@@ -82,7 +82,8 @@ feed-all m room [] roomy = refl
 feed-all m room (byte ∷ piece) roomy =
     let short : length (byteText m byte) ≤ longestReply = byte-short m byte in
     let free : ltb room longestReply ≡ false = le-ltb room longestReply (omega arith) in
-    let rest : feed (byteLeaves m byte) (room - length (byteText m byte)) piece .used ≡ length piece = feed-all (byteLeaves m byte) (room - length (byteText m byte)) piece (omega arith) in
+    let rest : feed (byteLeaves m byte) (room - length (byteText m byte)) piece .used ≡ length piece =
+    feed-all (byteLeaves m byte) (room - length (byteText m byte)) piece (omega arith) in
     rw free (omega arith)
 
 pub step-all : (m : Memory) (room : ℕ) (piece : List ℕ) → m .desk .stage .rows ≤ rowLimit → rowLimit * rowNumbers ≤ length (m .desk .table)

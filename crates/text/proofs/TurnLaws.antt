@@ -1,7 +1,7 @@
 -- What a line brings, from what was read of it and what the monitor answered.
 use mathlib.Core.List.{List, [], _∷_, append-assoc}
 use mathlib.Core.Option.{Option, none, some}
-use mathlib.Core.Path.{_≡_, refl, sym, ap, subst, _∙_}
+use mathlib.Core.Path.{_≡_, refl, sym, ap, _∙_}
 use Prim.Native.Nat.{ℕ, _+_, _≤_, _<_}
 use native.Mathlib.Omega.{arith}
 use borrow.Author.Tests.{leb-false}
@@ -28,10 +28,12 @@ use Rattle.monitor.specs.declared.answer.Started.{Started}
 use Rattle.monitor.specs.declared.answer.Judged.{Judged}
 use Rattle.text.specs.declared.state.Part.{Part}
 use Rattle.text.specs.declared.state.Part.the-variants.{Rules, Frames, Over}
+use Rattle.text.specs.declared.state.Stage.{Stage}
 use Rattle.text.specs.declared.turn.Told.{Told}
 use Rattle.text.specs.Replies.{needLine, refusedLine, Wrote}
 use Rattle.text.specs.Transcript.{frameJudged, replyOf}
-use Rattle.text.specs.Turn.{Desk, rowsRead, runningAt, needSaid, staged, ruleTurn, startTurn, beforeFrames, frameTurn, turnIn, lineTurn, Turned}
+use Rattle.text.specs.Turn.{Desk, Turn, desk, rowsRead, runningAt, needSaid, staged, Turned}
+use Rattle.text.specs.Turn.{ruleTurn, emptyTurn, beforeFrames, frameTurn, turnIn, lineTurn}
 use Rattle.meaning.proofs.Truths.{by-test}
 use Rattle.text.proofs.WroteLaws.{wrote-none}
 
@@ -41,13 +43,23 @@ pub read-found : {F : Type 0} (found : F → read.LineReply) (r : F) (next : ℕ
 read-found found r next given f is known = sym (ap (λ (x : read.Read). x .said) is) ∙ ap found known
 
 -- Nothing changes, and nothing is written.
-pub turned-nothing : (d : Desk) (out : List ℕ) (place : ℕ)
-    → Turned (record { left = d; text = [] }) out place (record { stage = d .stage; place = place }) (d .table) (d .store) out
-turned-nothing d out place = record { left = refl; wrote = wrote-none out place }
+pub turned-nothing : (brings : Desk → Turn) (stage : Stage) (table store out : List ℕ) (place : ℕ)
+    → brings (desk stage table store) ≡ record { left = desk stage table store; text = [] }
+    → Turned brings stage table store out place (record { stage = stage; place = place }) table store out
+turned-nothing brings stage table store out place nothing = record { left = rw nothing; wrote = rw nothing (wrote-none out place) }
+
+-- What brings the same is turned the same.
+pub turned-as : (brings other : Desk → Turn) (stage : Stage) (table store out : List ℕ) (place : ℕ) (told : Told) (table′ store′ after : List ℕ)
+    → Turned other stage table store out place told table′ store′ after
+    → brings (desk stage table store) ≡ other (desk stage table store)
+    → Turned brings stage table store out place told table′ store′ after
+turned-as brings other stage table store out place told table′ store′ after turned same =
+    record { left = rw same (turned .left); wrote = rw same (turned .wrote) }
 
 -- Five numbers stored one after the other.
 pub row-stored : (table : List ℕ) (place kind x y a b : ℕ) → place + rowNumbers ≤ length table
-    → set (set (set (set (set table place kind) (place + 1) x) (place + 2) y) (place + 3) a) (place + 4) b ≡ overwritten table place (kind ∷ x ∷ y ∷ a ∷ b ∷ [])
+    → set (set (set (set (set table place kind) (place + 1) x) (place + 2) y) (place + 3) a) (place + 4) b
+    ≡ overwritten table place (kind ∷ x ∷ y ∷ a ∷ b ∷ [])
 row-stored table place kind x y a b room =
     let row : List ℕ = kind ∷ x ∷ y ∷ a ∷ b ∷ [] in
     rw (add-one place, add-two place, add-three place, add-four place)
@@ -69,43 +81,51 @@ start-need table store good =
     by-fault none good = refl
     by-fault (some fault) good = absurd (refusal-clash fault good)
 
-module _ (d : Desk) (out : List ℕ) (place next : ℕ) (after : List ℕ) where
-  pub start-good : (s : Started) (store : List ℕ) → saidStart s store ≡ startOf (rowsRead d) (d .store) → s .answer ≡ StartAnswer.Good
-      → Wrote out place (needLine (needSaid (checkOf (rowsRead d)))) next after
-      → Turned (startTurn d (startOf (rowsRead d) (d .store))) out place (record { stage = staged Frames (d .stage .rows) (s .record); place = next }) (d .table) store after
-  start-good s store is good wrote =
-      let started : startOf (rowsRead d) (d .store) .refusal ≡ none = rw (← is, good) in
+module _ (stage : Stage) (table store out : List ℕ) (place next : ℕ) (after : List ℕ) where
+  -- The rows that the monitor starts on.
+  abbrev readRows : List ℕ
+  readRows = rowsRead (desk stage table store)
+
+  pub start-good : (s : Started) (store′ : List ℕ) → saidStart s store′ ≡ startOf readRows store → s .answer ≡ StartAnswer.Good
+      → Wrote out place (needLine (needSaid (checkOf readRows))) next after
+      → Turned emptyTurn stage table store out place (record { stage = staged Frames (stage .rows) (s .record); place = next }) table store′ after
+  start-good s store′ is good wrote =
+      let started : startOf readRows store .refusal ≡ none = rw (← is, good) in
       record {
         left = rw (← is, good);
-        wrote = rw (started, ← start-need (rowsRead d) (d .store) started) wrote;
+        wrote = rw (started, ← start-need readRows store started) wrote;
       }
 
-  pub start-refused : (s : Started) (store : List ℕ) (fault : Refusal) → saidStart s store ≡ startOf (rowsRead d) (d .store) → s .answer ≡ StartAnswer.Refused fault
+  pub start-refused : (s : Started) (store′ : List ℕ) (fault : Refusal) → saidStart s store′ ≡ startOf readRows store
+      → s .answer ≡ StartAnswer.Refused fault
       → Wrote out place (refusedLine (refused fault)) next after
-      → Turned (startTurn d (startOf (rowsRead d) (d .store))) out place (record { stage = staged Over (d .stage .rows) (s .record); place = next }) (d .table) store after
-  start-refused s store fault is refusal wrote = record { left = rw (← is, refusal); wrote = rw (← is, refusal) wrote }
+      → Turned emptyTurn stage table store out place (record { stage = staged Over (stage .rows) (s .record); place = next }) table store′ after
+  start-refused s store′ fault is refusal wrote = record { left = rw (← is, refusal); wrote = rw (← is, refusal) wrote }
 
   -- What a frame's answer brings.
-  pub frame-told : (counter mask : ℕ) (j : Judged) (store line : List ℕ)
-      → saidStep j store ≡ frameJudged (runningAt d) (frame counter mask)
+  pub frame-told : (counter mask : ℕ) (j : Judged) (store′ line : List ℕ)
+      → saidStep j store′ ≡ frameJudged (runningAt (desk stage table store)) (frame counter mask)
       → replyOf (j .record .time) (said (j .answer)) ≡ line
       → Wrote out place line next after
-      → Turned (frameTurn d (read.goodLine (counter ∷ mask ∷ []))) out place (record { stage = staged Frames (d .stage .rows) (j .record); place = next }) (d .table) store after
-  frame-told counter mask j store line is reply wrote = record { left = rw (← is); wrote = rw (← is, reply) wrote }
+      → Turned (frameTurn (read.goodLine (counter ∷ mask ∷ []))) stage table store out place
+      (record { stage = staged Frames (stage .rows) (j .record); place = next }) table store′ after
+  frame-told counter mask j store′ line is reply wrote = record { left = rw (← is); wrote = rw (← is, reply) wrote }
 
 -- The part of the text decides.
-pub turned-in : (part : Part) (d : Desk) (line out : List ℕ) (place : ℕ) (told : Told) (table store after : List ℕ) → d .stage .part ≡ part
-    → Turned (turnIn part d line) out place told table store after → Turned (lineTurn d line) out place told table store after
-turned-in part d line out place told table store after is turned =
-    subst (λ (p : Part). Turned (turnIn p d line) out place told table store after) (sym is) turned
+pub turned-in : (part : Part) (line : List ℕ) (stage : Stage) (table store out : List ℕ) (place : ℕ) (told : Told) (table′ store′ after : List ℕ)
+    → stage .part ≡ part
+    → Turned (turnIn part line) stage table store out place told table′ store′ after
+    → Turned (lineTurn line) stage table store out place told table′ store′ after
+turned-in part line stage table store out place told table′ store′ after is turned =
+    turned-as (lineTurn line) (turnIn part line) stage table store out place told table′ store′ after turned (rw is)
 
 -- No line brings more rows than a table may have.
-rule-rows : (d : Desk) (given : read.LineReply) → d .stage .rows < rowLimit → ruleTurn d given .left .stage .rows ≤ rowLimit
+rule-rows : (d : Desk) (given : read.LineReply) → d .stage .rows < rowLimit → ruleTurn given d .left .stage .rows ≤ rowLimit
 rule-rows d read.atEnd fewer = omega arith
 rule-rows d (read.goodLine given) fewer = omega arith
 rule-rows d (read.badLine fault) fewer = omega arith
 
-turn-rows-in : (part : Part) (d : Desk) (line : List ℕ) → d .stage .rows ≤ rowLimit → turnIn part d line .left .stage .rows ≤ rowLimit
+turn-rows-in : (part : Part) (d : Desk) (line : List ℕ) → d .stage .rows ≤ rowLimit → turnIn part line d .left .stage .rows ≤ rowLimit
 unfolding beforeFrames
 turn-rows-in Rules d line most =
     by-test (eqb (byteAt line 0) lineFeed) (λ empty. rw empty most)
@@ -115,5 +135,5 @@ turn-rows-in Rules d line most =
 turn-rows-in Frames d line most = most
 turn-rows-in Over d line most = most
 
-pub turn-rows : (d : Desk) (line : List ℕ) → d .stage .rows ≤ rowLimit → lineTurn d line .left .stage .rows ≤ rowLimit
+pub turn-rows : (d : Desk) (line : List ℕ) → d .stage .rows ≤ rowLimit → lineTurn line d .left .stage .rows ≤ rowLimit
 turn-rows d line most = turn-rows-in (d .stage .part) d line most

@@ -27,7 +27,7 @@ pub record Memory : Type 0 where
 
 -- A byte is held; a line feed ends the line, and the line brings what it brings.
 abbrev pub lineEnd : Memory → ℕ → Turn
-lineEnd m byte = lineTurn (m .desk) (heldLine (holding (m .held) byte))
+lineEnd m byte = lineTurn (heldLine (holding (m .held) byte)) (m .desk)
 
 unfoldable pub byteLeaves : Memory → ℕ → Memory
 byteLeaves m byte =
@@ -91,11 +91,15 @@ endText Over rows count = []
 unfoldable pub textEnd : State → List ℕ
 textEnd state = endText (state .stage .part) (state .stage .rows) (state .held .count)
 
+-- What a step brings, from a state and what is lent.
+abbrev pub stepFed : State → (table store piece out : List ℕ) → Feeding
+stepFed state table store piece out = pieceFed (memoryOf state table store) (length out) piece
+
 -- A step as the code has it: the state is handed back, what is lent is left, and the text is written from the output's start.
-pub record Stepped (m : Memory) (piece out : List ℕ) (fed : Fed) (table store after : List ℕ) : Type 0 where
-  pub left : memoryOf (fed .state) table store ≡ pieceFed m (length out) piece .left
-  pub used : fed .used ≡ pieceFed m (length out) piece .used
-  pub wrote : Wrote out 0 (pieceFed m (length out) piece .text) (fed .wrote) after
+pub record Stepped (state : State) (table store piece out : List ℕ) (fed : Fed) (table′ store′ after : List ℕ) : Type 0 where
+  pub left : memoryOf (fed .state) table′ store′ ≡ stepFed state table store piece out .left
+  pub used : fed .used ≡ stepFed state table store piece out .used
+  pub wrote : Wrote out 0 (stepFed state table store piece out .text) (fed .wrote) after
 
 -- The text's end writes where there is room for the longest line; otherwise nothing.
 pub record Ended (text out : List ℕ) (finished : Finished) (after : List ℕ) : Type 0 where

@@ -63,9 +63,9 @@ refusing d text =
     record { left = record { stage = staged Over (d .stage .rows) (d .stage .found); table = d .table; store = d .store }; text = text }
 
 -- A good rule line's numbers follow the rows read; "a bad rule line is EE08 or EE09 with its line counted from 00".
-abbrev pub ruleTurn : Desk → LineReply → Turn
-ruleTurn d atEnd = record { left = d; text = [] }
-ruleTurn d (goodLine given) =
+abbrev pub ruleTurn : LineReply → Desk → Turn
+ruleTurn atEnd d = record { left = d; text = [] }
+ruleTurn (goodLine given) d =
     record {
       left =
           record {
@@ -75,7 +75,7 @@ ruleTurn d (goodLine given) =
           };
       text = [];
     }
-ruleTurn d (read.badLine fault) = refusing d (refusalLine (fault .number) (d .stage .rows))
+ruleTurn (read.badLine fault) d = refusing d (refusalLine (fault .number) (d .stage .rows))
 
 -- "The table is checked at the empty line; a need over the store gives EE0400 in place of the need."
 abbrev pub startPart : Option Refused → Part
@@ -103,13 +103,13 @@ abbrev pub emptyTurn : Desk → Turn
 emptyTurn d = startTurn d (startOf (rowsRead d) (d .store))
 
 -- "a 65th line before the empty one EE0100, whatever it holds".
-unfoldable pub beforeFrames : Desk → List ℕ → Turn
-beforeFrames d line =
+unfoldable pub beforeFrames : List ℕ → Desk → Turn
+beforeFrames line d =
     cond (eqb (byteAt line 0) lineFeed) (emptyTurn d)
-    (cond (leb rowLimit (d .stage .rows)) (refusing d (refusedLine (refused Length))) (ruleTurn d (readRule line 0 .said)))
+    (cond (leb rowLimit (d .stage .rows)) (refusing d (refusedLine (refused Length))) (ruleTurn (readRule line 0 .said) d))
 
-abbrev pub frameTurn : Desk → LineReply → Turn
-frameTurn d said =
+abbrev pub frameTurn : LineReply → Desk → Turn
+frameTurn said d =
     record {
       left =
           record {
@@ -120,15 +120,18 @@ frameTurn d said =
       text = frameReply (runningAt d) said;
     }
 
-abbrev pub turnIn : Part → Desk → List ℕ → Turn
-turnIn Rules d line = beforeFrames d line
-turnIn Frames d line = frameTurn d (readFrame line 0 .said)
-turnIn Over d line = record { left = d; text = [] }
+abbrev pub turnIn : Part → List ℕ → Desk → Turn
+turnIn Rules line d = beforeFrames line d
+turnIn Frames line d = frameTurn (readFrame line 0 .said) d
+turnIn Over line d = record { left = d; text = [] }
 
-abbrev pub lineTurn : Desk → List ℕ → Turn
-lineTurn d line = turnIn (d .stage .part) d line
+abbrev pub lineTurn : List ℕ → Desk → Turn
+lineTurn line d = turnIn (d .stage .part) line d
 
--- A turn as the code has it: the stage is handed back, what is lent is left, and the text is written at a place of the output.
-pub record Turned (turn : Turn) (out : List ℕ) (place : ℕ) (told : Told) (table store after : List ℕ) : Type 0 where
-  pub left : desk (told .stage) table store ≡ turn .left
-  pub wrote : Wrote out place (turn .text) (told .place) after
+-- What a line brings, as the code has it: the stage is handed back, what is lent is left, and the text is written at a place of the output.
+pub record Turned
+    (brings : Desk → Turn)
+    (stage : Stage) (table store out : List ℕ) (place : ℕ)
+    (told : Told) (table′ store′ after : List ℕ) : Type 0 where
+  pub left : desk (told .stage) table′ store′ ≡ brings (desk stage table store) .left
+  pub wrote : Wrote out place (brings (desk stage table store) .text) (told .place) after

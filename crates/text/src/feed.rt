@@ -10,8 +10,8 @@ ghost use Rattle.rules.specs.Limits.{rowLimit, rowNumbers};
 ghost use Rattle.text.specs.declared.state.Part.the-variants as Part;
 ghost use Rattle.text.specs.Replies.{longestReply, Wrote};
 ghost use Rattle.text.specs.Held.{heldLine};
-ghost use Rattle.text.specs.Turn.{desk, Room, lineTurn, Turned};
-ghost use Rattle.text.specs.Feed.{memoryOf, Stepped, endText, textEnd, Ended};
+ghost use Rattle.text.specs.Turn.{Room, lineTurn, Turned};
+ghost use Rattle.text.specs.Feed.{Stepped, endText, textEnd, Ended};
 use crate::replies::LONGEST_REPLY;
 use crate::replies::write_refusal;
 use crate::replies::write_refused;
@@ -44,7 +44,8 @@ pub struct Finished {
 // The bytes of a piece are taken as long as the output has room for the longest line: where not all were used, the caller empties the output
 // and goes on from there. A table that is lent too short for every row, or a state that counts more rows, is left as it is: nothing is used.
 pub fn step(state: State, table: &mut [u32], store: &mut [u64], piece: &[u8], out: &mut [u8]) -> Fed
-    ensures { λ r. ⌜ Stepped (memoryOf state (now (table .entry)) (now (store .entry))) (now (piece .entry)) (now (out .entry)) r (now (table .exit)) (now (store .exit)) (now (out .exit)) ⌝ }
+    ensures { λ r. ⌜ Stepped state (now (table .entry)) (now (store .entry)) (now (piece .entry)) (now (out .entry))
+        r (now (table .exit)) (now (store .exit)) (now (out .exit)) ⌝ }
 {
     let stage = state.stage;
     if is_ready(stage.rows, table.len()) {
@@ -88,7 +89,8 @@ fn is_ready(rows: usize, size: usize) -> bool
 // A step that is ready: byte after byte, and at each line feed the line.
 fn feed(state: State, table: &mut [u32], store: &mut [u64], piece: &[u8], out: &mut [u8]) -> Fed
     requires { ⌜ (state .stage .rows ≤ rowLimit) × (rowLimit * rowNumbers ≤ length (now table)) ⌝ }
-    ensures { λ r. ⌜ Stepped (memoryOf state (now (table .entry)) (now (store .entry))) (now (piece .entry)) (now (out .entry)) r (now (table .exit)) (now (store .exit)) (now (out .exit)) ⌝ }
+    ensures { λ r. ⌜ Stepped state (now (table .entry)) (now (store .entry)) (now (piece .entry)) (now (out .entry))
+        r (now (table .exit)) (now (store .exit)) (now (out .exit)) ⌝ }
 {
     let mut held = state.held;
     let mut stage = state.stage;
@@ -130,7 +132,9 @@ fn end_line(
     place: usize,
 ) -> Told
     requires { ⌜ Room stage (now table) (now out) place ⌝ }
-    ensures { λ r. ⌜ Turned (lineTurn (desk stage (now (table .entry)) (now (store .entry))) (heldLine held)) (now (out .entry)) place r (now (table .exit)) (now (store .exit)) (now (out .exit)) ⌝ }
+    ensures { λ r. ⌜ Turned (lineTurn (heldLine held))
+        stage (now (table .entry)) (now (store .entry)) (now (out .entry)) place
+        r (now (table .exit)) (now (store .exit)) (now (out .exit)) ⌝ }
 {
     let bytes = held.bytes;
     let count = held_length(held.count);

@@ -13,7 +13,7 @@ ghost use Rattle.lines.specs.Line.{lineFeed};
 ghost use Rattle.lines.specs.Read.{goodLine};
 ghost use Rattle.lines.specs.Frame.{readFrame};
 ghost use Rattle.lines.specs.Rule.{readRule};
-ghost use Rattle.text.specs.Turn.{desk, Room, needSaid, staged, beforeFrames, emptyTurn, ruleTurn, frameTurn, lineTurn, Turned};
+ghost use Rattle.text.specs.Turn.{Room, needSaid, staged, beforeFrames, emptyTurn, ruleTurn, frameTurn, lineTurn, Turned};
 ghost use Rattle.text.specs.declared.state.Part.the-variants as Part;
 use crate::replies::write_need;
 use crate::replies::write_refusal;
@@ -49,7 +49,9 @@ pub(crate) fn turn(
     place: usize,
 ) -> Told
     requires { ⌜ Room stage (now table) (now out) place ⌝ }
-    ensures { λ r. ⌜ Turned (lineTurn (desk stage (now (table .entry)) (now (store .entry))) (now (line .entry))) (now (out .entry)) place r (now (table .exit)) (now (store .exit)) (now (out .exit)) ⌝ }
+    ensures { λ r. ⌜ Turned (lineTurn (now (line .entry)))
+        stage (now (table .entry)) (now (store .entry)) (now (out .entry)) place
+        r (now (table .exit)) (now (store .exit)) (now (out .exit)) ⌝ }
 {
     let part = stage.part;
     match part {
@@ -69,7 +71,9 @@ fn before_frames(
     place: usize,
 ) -> Told
     requires { ⌜ Room stage (now table) (now out) place ⌝ }
-    ensures { λ r. ⌜ Turned (beforeFrames (desk stage (now (table .entry)) (now (store .entry))) (now (line .entry))) (now (out .entry)) place r (now (table .exit)) (now (store .exit)) (now (out .exit)) ⌝ }
+    ensures { λ r. ⌜ Turned (beforeFrames (now (line .entry)))
+        stage (now (table .entry)) (now (store .entry)) (now (out .entry)) place
+        r (now (table .exit)) (now (store .exit)) (now (out .exit)) ⌝ }
 {
     if is_empty(line) {
         return empty_line(stage, table, store, out, place);
@@ -110,7 +114,9 @@ fn ended(stage: Stage) -> Stage
 fn rule_line(stage: Stage, table: &mut [u32], line: &[u8], out: &mut [u8], place: usize) -> Told
     requires { ⌜ Room stage (now table) (now out) place ⌝ }
     requires { ⌜ stage .rows < rowLimit ⌝ }
-    ensures { λ r. ⌜ ((store : List ℕ) → Turned (ruleTurn (desk stage (now (table .entry)) store) (readRule (now (line .entry)) 0 .said)) (now (out .entry)) place r (now (table .exit)) store (now (out .exit))) ⌝ }
+    ensures { λ r. ⌜ ((store : List ℕ) → Turned (ruleTurn (readRule (now (line .entry)) 0 .said))
+        stage (now (table .entry)) store (now (out .entry)) place
+        r (now (table .exit)) store (now (out .exit))) ⌝ }
 {
     let read = read_rule(line, 0);
     let rule = read.found;
@@ -156,7 +162,9 @@ fn add_row(table: &mut [u32], place: usize, kind: u32, x: u32, y: u32, a: u32, b
 // The empty line: the table is checked, and the monitor starts.
 fn empty_line(stage: Stage, table: &[u32], store: &mut [u64], out: &mut [u8], place: usize) -> Told
     requires { ⌜ Room stage (now table) (now out) place ⌝ }
-    ensures { λ r. ⌜ Turned (emptyTurn (desk stage (now (table .entry)) (now (store .entry)))) (now (out .entry)) place r (now (table .entry)) (now (store .exit)) (now (out .exit)) ⌝ }
+    ensures { λ r. ⌜ Turned emptyTurn
+        stage (now (table .entry)) (now (store .entry)) (now (out .entry)) place
+        r (now (table .entry)) (now (store .exit)) (now (out .exit)) ⌝ }
 {
     let rows = stage.rows;
     let end = rows * ROW_NUMBERS;
@@ -205,7 +213,9 @@ fn frame_line(
 ) -> Told
     requires { ⌜ Room stage (now table) (now out) place ⌝ }
     requires { ⌜ stage .part ≡ Part.Frames ⌝ }
-    ensures { λ r. ⌜ Turned (frameTurn (desk stage (now (table .entry)) (now (store .entry))) (readFrame (now (line .entry)) 0 .said)) (now (out .entry)) place r (now (table .entry)) (now (store .exit)) (now (out .exit)) ⌝ }
+    ensures { λ r. ⌜ Turned (frameTurn (readFrame (now (line .entry)) 0 .said))
+        stage (now (table .entry)) (now (store .entry)) (now (out .entry)) place
+        r (now (table .entry)) (now (store .exit)) (now (out .exit)) ⌝ }
 {
     let read = read_frame(line, 0);
     let frame = read.found;
@@ -232,7 +242,9 @@ fn judge(
     place: usize,
 ) -> Told
     requires { ⌜ Room stage (now table) (now out) place ⌝ }
-    ensures { λ r. ⌜ Turned (frameTurn (desk stage (now (table .entry)) (now (store .entry))) (goodLine (counter ∷ mask ∷ []))) (now (out .entry)) place r (now (table .entry)) (now (store .exit)) (now (out .exit)) ⌝ }
+    ensures { λ r. ⌜ Turned (frameTurn (goodLine (counter ∷ mask ∷ [])))
+        stage (now (table .entry)) (now (store .entry)) (now (out .entry)) place
+        r (now (table .entry)) (now (store .exit)) (now (out .exit)) ⌝ }
 {
     let rows = stage.rows;
     let end = rows * ROW_NUMBERS;

@@ -23,8 +23,8 @@ use Rattle.text.specs.Replies.{longestReply}
 use Rattle.text.specs.Transcript.{emptyStore, framesFrom, rulesFrom, transcript}
 use Rattle.text.specs.Held.{lineLimit, heldLine, holding}
 use Rattle.text.specs.Turn.{Desk, beforeFrames, turnIn, lineTurn}
-use Rattle.text.specs.Feed.{Memory, byteLeaves, byteText, feed, memoryOf, stateIn, fresh, endText, textEnd}
-use Rattle.text.specs.Course.{Lent, course, joined}
+use Rattle.text.specs.Feed.{Memory, byteLeaves, byteText, Feeding, feed, memoryOf, stateIn, fresh, endText, textEnd}
+use Rattle.text.specs.Course.{Lent, Course, course, joined}
 use Rattle.text_promises.specs.Cutting.{EveryCutting, Roomy, EveryByteTaken, SomeByteTaken}
 use Rattle.text.proofs.FeedLaws.{step-ready}
 use Rattle.text.proofs.ShortLaws.{feed-all}
@@ -43,15 +43,17 @@ record Stands (m : Memory) (line : List ℕ) : Type 0 where
   pub desk : Right (m .desk)
 
 -- A line as far as it is held brings what the line brings.
-turn-held-in : (part : Part) (d : Desk) (line : List ℕ) → turnIn part d (take lineLimit line) ≡ turnIn part d line
+turn-held-in : (part : Part) (d : Desk) (line : List ℕ) → turnIn part (take lineLimit line) d ≡ turnIn part line d
 unfolding beforeFrames
 turn-held-in Rules d line = rw (getD-take lineLimit line 0 0 (lit< tt), said-held ruleWidths lineLimit line (omega arith))
 turn-held-in Frames d line = rw (said-held frameWidths lineLimit line (omega arith))
 turn-held-in Over d line = refl
 
-turn-held : (m : Memory) (line : List ℕ) (byte : ℕ) → Stands m line → lineTurn (m .desk) (heldLine (holding (m .held) byte)) ≡ lineTurn (m .desk) (line ++ (byte ∷ []))
+turn-held : (m : Memory) (line : List ℕ) (byte : ℕ) → Stands m line
+    → lineTurn (heldLine (holding (m .held) byte)) (m .desk) ≡ lineTurn (line ++ (byte ∷ [])) (m .desk)
 turn-held m line byte stands =
-    ap (lineTurn (m .desk)) (holds-line (holding (m .held) byte) (line ++ (byte ∷ [])) (holds-more (m .held) line byte (stands .held)))
+    let more : HoldsLine (holding (m .held) byte) (line ++ (byte ∷ [])) = holds-more (m .held) line byte (stands .held) in
+    ap (λ (l : List ℕ). lineTurn l (m .desk)) (holds-line (holding (m .held) byte) (line ++ (byte ∷ [])) more)
     ∙ turn-held-in (m .desk .stage .part) (m .desk) (line ++ (byte ∷ []))
 
 -- A line stays without a line feed by every other byte.
@@ -113,7 +115,9 @@ share-more : (m : Memory) (line first text : List ℕ) (between : Memory) (secon
 share-more m line first text between second more left one two =
     record {
       stands = rw (unfinished-more line first second) (two .stands);
-      text-owed = λ rest. rw (append-assoc first second rest, append-assoc text more (toCome left (unfinished line (first ++ second)) rest), unfinished-more line first second)
+      text-owed = λ rest.
+          let to-come : List ℕ = toCome left (unfinished line (first ++ second)) rest in
+          rw (append-assoc first second rest, append-assoc text more to-come, unfinished-more line first second)
           (one .text-owed (second ++ rest) ∙ ap (λ (l : List ℕ). text ++ l) (two .text-owed rest));
     }
 
@@ -136,14 +140,17 @@ course-share : (m : Memory) (line : List ℕ) (lents : List Lent) → Stands m l
 unfolding course
 course-share m line [] stands = share-none m line stands
 course-share m line (lent ∷ more) stands =
-    let fed : Share m line (take (feed m (lent .room) (lent .piece) .used) (lent .piece)) (feed m (lent .room) (lent .piece) .text) (feed m (lent .room) (lent .piece) .left) =
+    let feeding : Feeding = feed m (lent .room) (lent .piece) in
+    let fed : Share m line (take (feeding .used) (lent .piece)) (feeding .text) (feeding .left) =
     feed-share m (lent .room) line (lent .piece) stands in
     rw (step-ready m (lent .room) (lent .piece) (stands .desk .rows) (stands .desk .room))
-    (share-more m line _ _ (feed m (lent .room) (lent .piece) .left) _ _ _ fed
-    (course-share (feed m (lent .room) (lent .piece) .left) _ more (fed .stands)))
+    (share-more m line _ _ (feeding .left) _ _ _ fed (course-share (feeding .left) _ more (fed .stands)))
 
 -- The text's end.
-end-owed-in : (part : Part) (d : Desk) (line : List ℕ) (count : ℕ) → Right d → count ≡ min (length line) lineLimit → ((i : ℕ) → byteAt line i ≡ lineFeed → ⊥)
+end-owed-in : (part : Part) (d : Desk) (line : List ℕ) (count : ℕ)
+    → Right d
+    → count ≡ min (length line) lineLimit
+    → ((i : ℕ) → byteAt line i ≡ lineFeed → ⊥)
     → owedIn part d (linesGoingOn line []) ≡ endText part (d .stage .rows) count
 unfolding linesGoingOn rulesFrom framesFrom
 end-owed-in Rules d [] count right is free = rw is
@@ -180,18 +187,21 @@ fresh-owed table text = refl
 pub every-cutting : EveryCutting
 every-cutting table room lents =
     let m : Memory = memoryOf fresh table emptyStore in
-    let share : Share m [] (course m lents .taken) (course m lents .written) (course m lents .left) = course-share m [] lents (fresh-stands table room) in
-    ap (λ (l : List ℕ). course m lents .written ++ l) (sym (end-owed (course m lents .left) (unfinished [] (course m lents .taken)) (share .stands)))
+    let all : Course = course m lents in
+    let share : Share m [] (all .taken) (all .written) (all .left) = course-share m [] lents (fresh-stands table room) in
+    ap (λ (l : List ℕ). all .written ++ l) (sym (end-owed (all .left) (unfinished [] (all .taken)) (share .stands)))
     ∙ sym (share .text-owed [])
-    ∙ ap (toCome m []) (append-nil (course m lents .taken))
-    ∙ fresh-owed table (course m lents .taken)
+    ∙ ap (toCome m []) (append-nil (all .taken))
+    ∙ fresh-owed table (all .taken)
 
 course-all : (m : Memory) (line : List ℕ) (lents : List Lent) → Stands m line → Roomy lents → course m lents .taken ≡ joined lents
 unfolding course
 course-all m line [] stands roomy = refl
 course-all m line (lent ∷ more) stands roomy =
     let fed = feed-share m (lent .room) line (lent .piece) stands in
-    rw (step-ready m (lent .room) (lent .piece) (stands .desk .rows) (stands .desk .room), feed-all m (lent .room) (lent .piece) (roomy .0), take-length (lent .piece), course-all (feed m (lent .room) (lent .piece) .left) _ more (fed .stands) (roomy .1))
+    rw (step-ready m (lent .room) (lent .piece) (stands .desk .rows) (stands .desk .room))
+    (rw (feed-all m (lent .room) (lent .piece) (roomy .0), take-length (lent .piece))
+    (rw (course-all (feed m (lent .room) (lent .piece) .left) _ more (fed .stands) (roomy .1))))
 
 pub every-byte-taken : EveryByteTaken
 every-byte-taken table room lents roomy = course-all (memoryOf fresh table emptyStore) [] lents (fresh-stands table room) roomy

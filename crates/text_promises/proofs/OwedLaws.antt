@@ -52,36 +52,39 @@ start-owed : (d : Desk) (lines : List (List ℕ)) (start : Beginning)
     → begun (rowsRead d) lines start ≡ startTurn d start .text ++ owed (startTurn d start .left) lines
 start-owed d lines start = by (start .refusal) refl
   where
-    by : (fault : Option Refused) → start .refusal ≡ fault → begun (rowsRead d) lines start ≡ startTurn d start .text ++ owed (startTurn d start .left) lines
+    by : (fault : Option Refused) → start .refusal ≡ fault
+        → begun (rowsRead d) lines start ≡ startTurn d start .text ++ owed (startTurn d start .left) lines
     by none is = rw is
     by (some fault) is = rw is (sym (append-nil _))
 
 -- A rule line.
 rule-owed : (d : Desk) (line : List ℕ) (lines : List (List ℕ)) → Right d → d .stage .part ≡ Rules
     → unlessFault (d .stage .rows) (ruleFault (readRule line 0 .said)) (rulesFrom (withRule (rowsRead d) (readRule line 0 .said)) lines)
-    ≡ ruleTurn d (readRule line 0 .said) .text ++ owed (ruleTurn d (readRule line 0 .said) .left) lines
+    ≡ ruleTurn (readRule line 0 .said) d .text ++ owed (ruleTurn (readRule line 0 .said) d .left) lines
 rule-owed d line lines right part =
     let given : List ℕ = numbersRead line 0 0 ruleWidths in
     let place : ℕ = d .stage .rows * rowNumbers in
     let rows : d .stage .rows ≤ rowLimit = right .rows in
     let room : rowLimit * rowNumbers ≤ length (d .table) = right .room in
     let on : (d .stage .rows + 1) * rowNumbers ≡ place + length given = omega arith in
-    let table : take ((d .stage .rows + 1) * rowNumbers) (overwritten (d .table) place given) ≡ rowsRead d ++ given = rw on (take-over (d .table) place (omega arith) given) in
+    let table : take ((d .stage .rows + 1) * rowNumbers) (overwritten (d .table) place given) ≡ rowsRead d ++ given =
+    rw on (take-over (d .table) place (omega arith) given) in
     said-by
-    (λ (said : LineReply). unlessFault (d .stage .rows) (ruleFault said) (rulesFrom (withRule (rowsRead d) said) lines) ≡ ruleTurn d said .text ++ owed (ruleTurn d said .left) lines)
+    (λ (said : LineReply). unlessFault (d .stage .rows) (ruleFault said) (rulesFrom (withRule (rowsRead d) said) lines)
+    ≡ ruleTurn said d .text ++ owed (ruleTurn said d .left) lines)
     ruleWidths line
     (rw part)
     (rw table)
     (λ fault. sym (append-nil _))
 
 -- A frame's line.
-frame-left : (d : Desk) (said : LineReply) → frameLeaves (runningAt d) said ≡ runningAt (frameTurn d said .left)
+frame-left : (d : Desk) (said : LineReply) → frameLeaves (runningAt d) said ≡ runningAt (frameTurn said d .left)
 frame-left d atEnd = refl
 frame-left d (goodLine given) = refl
 frame-left d (badLine fault) = refl
 
 turn-owed-in : (part : Part) (d : Desk) (line : List ℕ) (lines : List (List ℕ)) → Right d → d .stage .part ≡ part
-    → owedIn part d (line ∷ lines) ≡ turnIn part d line .text ++ owed (turnIn part d line .left) lines
+    → owedIn part d (line ∷ lines) ≡ turnIn part line d .text ++ owed (turnIn part line d .left) lines
 unfolding rulesFrom tableThen framesFrom beforeFrames
 turn-owed-in Rules d line lines right part =
     by-test (eqb (byteAt line 0) lineFeed)
@@ -93,7 +96,8 @@ turn-owed-in Rules d line lines right part =
 turn-owed-in Frames d line lines right part = rw (frame-left d (readFrame line 0 .said))
 turn-owed-in Over d line lines right part = rw part
 
-pub turn-owed : (d : Desk) (line : List ℕ) (lines : List (List ℕ)) → Right d → owed d (line ∷ lines) ≡ lineTurn d line .text ++ owed (lineTurn d line .left) lines
+pub turn-owed : (d : Desk) (line : List ℕ) (lines : List (List ℕ)) → Right d
+    → owed d (line ∷ lines) ≡ lineTurn line d .text ++ owed (lineTurn line d .left) lines
 turn-owed d line lines right = turn-owed-in (d .stage .part) d line lines right refl
 
 -- The table keeps its length, and the store is the program's until the empty line.
@@ -111,7 +115,7 @@ not-started : (fault : Option Refused) → startPart fault ≡ Rules → ⊥
 not-started none is = not-frames is
 not-started (some fault) is = not-over is
 
-turn-kept-in : (part : Part) (d : Desk) (line : List ℕ) → Right d → d .stage .part ≡ part → Kept d (turnIn part d line)
+turn-kept-in : (part : Part) (d : Desk) (line : List ℕ) → Right d → d .stage .part ≡ part → Kept d (turnIn part line d)
 unfolding beforeFrames
 turn-kept-in Rules d line right part =
     let room : rowLimit * rowNumbers ≤ length (d .table) = right .room in
@@ -122,7 +126,7 @@ turn-kept-in Rules d line right part =
     (λ all. rw all (record { table = refl; store = λ is. absurd (not-over is) }))
     (λ fewer. rw fewer
     (let below : d .stage .rows < rowLimit = leb-false _ _ fewer in
-    said-by (λ (said : LineReply). Kept d (ruleTurn d said)) ruleWidths line
+    said-by (λ (said : LineReply). Kept d (ruleTurn said d)) ruleWidths line
     (record { table = refl; store = right .store })
     (record {
       table = length-over (d .table) (d .stage .rows * rowNumbers) (numbersRead line 0 0 ruleWidths) (omega arith);
@@ -132,8 +136,8 @@ turn-kept-in Rules d line right part =
 turn-kept-in Frames d line right part = record { table = refl; store = λ is. absurd (not-frames is) }
 turn-kept-in Over d line right part = record { table = refl; store = right .store }
 
-pub turn-right : (d : Desk) (line : List ℕ) → Right d → Right (lineTurn d line .left)
+pub turn-right : (d : Desk) (line : List ℕ) → Right d → Right (lineTurn line d .left)
 turn-right d line right =
     let room : rowLimit * rowNumbers ≤ length (d .table) = right .room in
-    let kept : Kept d (lineTurn d line) = turn-kept-in (d .stage .part) d line right refl in
+    let kept : Kept d (lineTurn line d) = turn-kept-in (d .stage .part) d line right refl in
     record { rows = turn-rows d line (right .rows); room = omega arith; store = kept .store }

@@ -1,4 +1,5 @@
--- `muktrashi::end` meets its contract: there is room for the longest line, so `finish` writes the text's end; and that fits the output. Assumes nothing.
+-- `muktrashi::end` meets its contract: there is room for the longest line, so `finish` writes the text's end; and that fits the output. Assumes
+-- nothing.
 use mathlib.Core.Path.{sym}
 use borrow.Author.Needs.{needs}
 use borrow.Author.Tests.{le-leb}

@@ -20,7 +20,7 @@ slice-aggregate-run-4 c = search needs
 
 run-requires : tie.Need-run-requires
 unfolding emptyStore
-run-requires c κs = (search needs, refl, search needs, search needs)
+run-requires c κs = record { rows = search needs; words = refl; bytes = search needs; lines = search needs }
 
 returns : tie.Need-returns
 returns c = search needs

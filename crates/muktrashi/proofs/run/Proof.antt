@@ -1,6 +1,6 @@
--- `muktrashi::run` meets its contract: each turn takes one piece more, whole, from where the turn before ended (`went-on`). The loop: what is lent keeps
--- its length, so there is room for a line a byte, and no more rows are counted than a table may have. What was written fits the output. The measure
--- is the turns left. Assumes nothing.
+-- `muktrashi::run` meets its contract: each turn takes one piece more, whole, from where the turn before ended (`went-on`). The loop: what is lent
+-- keeps its length, so there is room for a line a byte, and no more rows are counted than a table may have. What was written fits the output. The
+-- measure is the turns left. Assumes nothing.
 use mathlib.Core.List.{List}
 use mathlib.Core.Path.{_≡_, refl, sym, ap, _∙_}
 use Prim.Native.Nat.{ℕ, _-_, _*_, _^_, _≤_, _<_}
@@ -12,11 +12,10 @@ use Rattle.rules.specs.Limits.{rowLimit, rowNumbers}
 use Rattle.text.specs.declared.feed.Fed.{Fed}
 use Rattle.text.specs.declared.state.State.{State}
 use Rattle.text.specs.Replies.{longestReply}
-use Rattle.text.specs.Feed.{Memory, pieceFed, memoryOf, fresh, Stepped}
-use Rattle.text.proofs.WroteLaws.{wrote-fits}
+use Rattle.text.specs.Feed.{Memory, stepFed, memoryOf, fresh, Stepped}
 use Rattle.text.proofs.FeedLaws.{step-rows}
 use Rattle.muktrashi.specs.Loop.{Went}
-use Rattle.muktrashi.proofs.LoopLaws.{went-first, some-read, went-on, looped-on, looped-end}
+use Rattle.muktrashi.proofs.LoopLaws.{went-first, some-read, whole-fits, went-on, looped-on, looped-end}
 use Rattle.muktrashi.proofs.run.Statement.{statement}
 use Rattle.muktrashi.proofs.run.Tie as tie
 
@@ -25,12 +24,14 @@ fresh-rows : (s : State) → s ≡ fresh → s .stage .rows ≤ rowLimit
 unfolding fresh
 fresh-rows s is = rw is (omega arith)
 
-stepped-rows : (m : Memory) (piece out : List ℕ) (fed : Fed) (table store after : List ℕ) → Stepped m piece out fed table store after
-    → m .desk .stage .rows ≤ rowLimit → fed .state .stage .rows ≤ rowLimit
-stepped-rows m piece out fed table store after stepped most =
-    let same : fed .state .stage .rows ≡ pieceFed m (length out) piece .left .desk .stage .rows =
+stepped-rows : (state : State) (table store piece out : List ℕ) (fed : Fed) (table′ store′ after : List ℕ)
+    → Stepped state table store piece out fed table′ store′ after
+    → state .stage .rows ≤ rowLimit
+    → fed .state .stage .rows ≤ rowLimit
+stepped-rows state table store piece out fed table′ store′ after stepped most =
+    let same : fed .state .stage .rows ≡ stepFed state table store piece out .left .desk .stage .rows =
     ap (λ (m : Memory). m .desk .stage .rows) (stepped .left) in
-    rw same (step-rows m (length out) piece most)
+    rw same (step-rows (memoryOf state table store) (length out) piece most)
 
 abbrev Inv-loop : tie.InvT-loop
 Inv-loop table₀ store₀ piece₀ out₀ state₀ turns₀ table store piece out state turns =
@@ -59,10 +60,10 @@ loop-holds c =
       refl,
       refl,
       fresh-rows (c .fresh .result) is-fresh,
-      start .pre .0,
-      start .pre .2,
-      start .pre .3,
-      went-first _ _ _ is-fresh (start .pre .1),
+      start .pre .rows,
+      start .pre .bytes,
+      start .pre .lines,
+      went-first _ _ _ is-fresh (start .pre .words),
     )
 
 read-requires : tie.Need-read-requires Inv-loop μ-loop
@@ -107,7 +108,7 @@ add-turns c = search needs
 slice-reshare-prefix-write-all : tie.Need-slice-reshare-prefix-write-all Inv-loop μ-loop
 slice-reshare-prefix-write-all c =
     let fed = c .before .before .before .before .before .before .before .take-whole in
-    wrote-fits _ _ _ _ (fed .ensures .1 .wrote) (fed .kept .1 .1 .1 .1 .0)
+    whole-fits _ _ _ _ _ _ _ _ _ (fed .ensures) (fed .kept .1 .1 .1 .1 .0)
 
 slice-aggregate-write-all : tie.Need-slice-aggregate-write-all Inv-loop μ-loop
 slice-aggregate-write-all c = sym (length-take-le _ _ (slice-reshare-prefix-write-all (c .before)))
@@ -149,7 +150,7 @@ returns-2 c =
     let read = fed .before .before .before .before .before .before .before .before .before .before in
     let at = read .before .before .before in
     let some = some-read _ _ (slice-aggregate-take-whole (fed .before .before)) (fed .before .before .before .before .before .if1 .left) in
-    looped-on _ _ _ _ _ (went-on _ _ _ _ _ _ _ _ _ _ _ (at .loop .inv .8) some (fed .take-whole .ensures .0) (fed .take-whole .ensures .1)) _
+    looped-on _ _ _ _ _ (went-on _ _ _ _ _ _ _ _ _ _ _ (at .loop .inv .8) some (fed .take-whole .ensures)) _
 
 loop-less : tie.Need-loop-less Inv-loop μ-loop
 loop-less c = omega arith
@@ -164,11 +165,11 @@ loop-again c =
       fed .take-whole .kept .1 .1 .0 ∙ at .loop .inv .1,
       read .read .kept .1 .0 ∙ at .loop .inv .2,
       fed .take-whole .kept .1 .1 .1 .1 .0 ∙ at .loop .inv .3,
-      stepped-rows (memoryOf (at .loop .state) (at .loop .table) (at .loop .store)) _ _ _ _ _ _ (fed .take-whole .ensures .1) (at .loop .inv .4),
+      stepped-rows _ _ _ _ _ _ _ _ _ (fed .take-whole .ensures .stepped) (at .loop .inv .4),
       at .loop .inv .5,
       at .loop .inv .6,
       at .loop .inv .7,
-      went-on _ _ _ _ _ _ _ _ _ _ _ (at .loop .inv .8) some (fed .take-whole .ensures .0) (fed .take-whole .ensures .1),
+      went-on _ _ _ _ _ _ _ _ _ _ _ (at .loop .inv .8) some (fed .take-whole .ensures),
     )
 
 same-length-9 : tie.Need-same-length-9 Inv-loop μ-loop

@@ -1,8 +1,6 @@
--- `muktrashi::take_whole` meets its contract: what is ready, with room for a line a byte, is taken whole (`step-all`). Assumes nothing.
-use mathlib.Core.Path.{_∙_}
+-- `muktrashi::take_whole` meets its contract: what is ready, with room for a line a byte, is taken whole (`taken-whole`). Assumes nothing.
 use borrow.Author.Needs.{needs}
-use Rattle.text.specs.Feed.{Memory, memoryOf}
-use Rattle.text.proofs.ShortLaws.{step-all}
+use Rattle.muktrashi.proofs.LoopLaws.{taken-whole}
 use Rattle.muktrashi.proofs.take_whole.Statement.{statement}
 use Rattle.muktrashi.proofs.take_whole.Tie as tie
 
@@ -22,9 +20,7 @@ returns : tie.Need-returns
 returns c =
     let fed = c .before .before .before .before .before .before in
     let start = fed .before .before .before .before .before .before .before .before in
-    let m : Memory = memoryOf (start .args .state) (start .args .table .now) (start .args .store .now) in
-    let all = step-all m _ _ (start .pre .0) (start .pre .1) (start .pre .2) in
-    (fed .step .ensures .used ∙ all, fed .step .ensures)
+    taken-whole _ _ _ _ _ _ _ _ _ (start .pre) (fed .step .ensures)
 
 pub take-whole-spec : {M : Type 1} → statement M
 take-whole-spec = tie.close (tie.spec step-requires same-length same-length-2 same-length-3 returns)

@@ -22,7 +22,8 @@ part-turn-start c = search needs
 
 part-turn-end : tie.Need-part-turn-end
 part-turn-end c =
-    let size : lineLimit ≡ length (c .before .before .before .before .before .before .before .before .args .held .bytes) = slice-aggregate-all (c .before .before) in
+    let entry = c .before .before .before .before .before .before .before .before .args in
+    let size : lineLimit ≡ length (entry .held .bytes) = slice-aggregate-all (c .before .before) in
     omega arith
 
 turn-requires : tie.Need-turn-requires

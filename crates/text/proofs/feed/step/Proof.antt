@@ -1,7 +1,6 @@
 -- `text::feed::step` meets its contract: what is not ready is left as it is. Assumes nothing.
 use mathlib.Core.Path.{sym, _∙_}
 use borrow.Author.Needs.{needs}
-use Rattle.text.specs.Feed.{memoryOf}
 use Rattle.text.proofs.FeedLaws.{ready-parts, step-left}
 use Rattle.text.proofs.feed.step.Statement.{statement}
 use Rattle.text.proofs.feed.step.Tie as tie
@@ -28,8 +27,7 @@ returns c = c .before .before .before .before .before .before .feed .ensures
 
 returns-2 : tie.Need-returns-2
 returns-2 c =
-    let entry = c .before .before .before .before .before .before .before .args in
-    step-left (memoryOf (entry .state) (entry .table .now) (entry .store .now)) _ _ (sym (c .before .is-ready .ensures) ∙ c .if1 .left)
+    step-left _ _ _ _ _ (sym (c .before .is-ready .ensures) ∙ c .if1 .left)
 
 pub step-spec : {M : Type 1} → statement M
 step-spec =

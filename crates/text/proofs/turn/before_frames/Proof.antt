@@ -1,7 +1,11 @@
 -- `text::turn::before_frames` meets its contract: the empty line first, then the number of rows. Assumes nothing.
 use borrow.Author.Needs.{needs}
 use borrow.Author.Tests.{le-leb, lt-leb}
-use Rattle.text.specs.Turn.{beforeFrames}
+use Rattle.refusals.specs.Refusals.{refused}
+use Rattle.refusals.specs.declared.refusal.Refusal.the-variants.{Length}
+use Rattle.text.specs.Replies.{refusedLine}
+use Rattle.text.specs.Turn.{refusing, beforeFrames}
+use Rattle.text.proofs.TurnLaws.{turned-as}
 use Rattle.text.proofs.turn.before_frames.Statement.{statement}
 use Rattle.text.proofs.turn.before_frames.Tie as tie
 
@@ -25,7 +29,7 @@ unfolding beforeFrames
 returns c =
     let told = c .before .before .before .before in
     let test = told .before .before .before .before in
-    rw (← (test .before .is-empty .ensures), test .if1 .taken) (told .empty-line .ensures)
+    turned-as _ _ _ _ _ _ _ _ _ _ _ (told .empty-line .ensures) (rw (← (test .before .is-empty .ensures), test .if1 .taken))
 
 ended-requires : tie.Need-ended-requires
 ended-requires c κs = search needs
@@ -42,8 +46,9 @@ returns-2 c =
     let told = c .before .before in
     let limit = told .before .before .before in
     let test = limit .before in
-    rw (← (test .before .is-empty .ensures), test .if1 .left, le-leb _ _ (limit .if2 .taken))
+    turned-as _ (λ d. refusing d (refusedLine (refused Length))) _ _ _ _ _ _ _ _ _
     (record { left = rw (told .before .before .ended .ensures); wrote = told .write-refused .ensures })
+    (rw (← (test .before .is-empty .ensures), test .if1 .left, le-leb _ _ (limit .if2 .taken)))
 
 rule-line-requires : tie.Need-rule-line-requires
 rule-line-requires c κs = search needs
@@ -60,7 +65,8 @@ returns-3 c =
     let told = c .before .before .before .before in
     let limit = told .before .before .before in
     let test = limit .before in
-    rw (← (test .before .is-empty .ensures), test .if1 .left, lt-leb _ _ (limit .if2 .left)) (told .rule-line .ensures _)
+    turned-as _ _ _ _ _ _ _ _ _ _ _ (told .rule-line .ensures _)
+    (rw (← (test .before .is-empty .ensures), test .if1 .left, lt-leb _ _ (limit .if2 .left)))
 
 pub before-frames-spec : {M : Type 1} → statement M
 before-frames-spec =

@@ -4,7 +4,6 @@ use Prim.Native.Nat.{_*_, _-_}
 use native.Mathlib.Omega.{arith}
 use borrow.Author.Needs.{needs}
 use Rattle.rules.specs.Limits.{rowNumbers}
-use Rattle.text.specs.Turn.{desk}
 use Rattle.text.proofs.TurnLaws.{start-good, start-refused}
 use Rattle.text.proofs.turn.empty_line.Statement.{statement}
 use Rattle.text.proofs.turn.empty_line.Tie as tie
@@ -52,7 +51,7 @@ returns c =
     let started = known .before .before .before .before .before in
     let entry = started .before .before .before .before .before .before .args in
     let whole : entry .stage .rows * rowNumbers - 0 ≡ entry .stage .rows * rowNumbers = omega arith in
-    start-good (desk (entry .stage) (entry .table .now) (entry .store .now)) _ _ _ _ (started .start .result) _
+    start-good (entry .stage) (entry .table .now) (entry .store .now) _ _ _ _ (started .start .result) _
     (rw whole at (started .start .ensures))
     (known .enum-told .given .1)
     (rw (told .before .need-of .ensures, whole) at (told .write-need .ensures))
@@ -70,7 +69,7 @@ returns-2 c =
     let started = known .before .before .before .before .before in
     let entry = started .before .before .before .before .before .before .args in
     let whole : entry .stage .rows * rowNumbers - 0 ≡ entry .stage .rows * rowNumbers = omega arith in
-    start-refused (desk (entry .stage) (entry .table .now) (entry .store .now)) _ _ _ _ (started .start .result) _ _
+    start-refused (entry .stage) (entry .table .now) (entry .store .now) _ _ _ _ (started .start .result) _ _
     (rw whole at (started .start .ensures))
     (known .answer .given .1)
     (told .write-refused .ensures)

@@ -4,7 +4,6 @@ use Prim.Native.Nat.{_*_, _-_}
 use native.Mathlib.Omega.{arith}
 use borrow.Author.Needs.{needs}
 use Rattle.rules.specs.Limits.{rowNumbers}
-use Rattle.text.specs.Turn.{desk}
 use Rattle.text.proofs.TurnLaws.{frame-told}
 use Rattle.text.proofs.turn.judge.Statement.{statement}
 use Rattle.text.proofs.turn.judge.Tie as tie
@@ -49,7 +48,7 @@ returns c =
     let judged = known .before .before .before .before .before in
     let entry = judged .before .before .before .before .before .before .before .args in
     let whole : entry .stage .rows * rowNumbers - 0 ≡ entry .stage .rows * rowNumbers = omega arith in
-    frame-told (desk (entry .stage) (entry .table .now) (entry .store .now)) _ _ _ _ _ _ (judged .frame .result) _ _
+    frame-told (entry .stage) (entry .table .now) (entry .store .now) _ _ _ _ _ _ (judged .frame .result) _ _
     (rw whole at (judged .frame .ensures))
     (rw (known .answer .given .1))
     (told .write-verdict .ensures)
@@ -67,7 +66,7 @@ returns-2 c =
     let judged = known .before .before .before .before .before in
     let entry = judged .before .before .before .before .before .before .before .args in
     let whole : entry .stage .rows * rowNumbers - 0 ≡ entry .stage .rows * rowNumbers = omega arith in
-    frame-told (desk (entry .stage) (entry .table .now) (entry .store .now)) _ _ _ _ _ _ (judged .frame .result) _ _
+    frame-told (entry .stage) (entry .table .now) (entry .store .now) _ _ _ _ _ _ (judged .frame .result) _ _
     (rw whole at (judged .frame .ensures))
     (rw (known .answer2 .given .1))
     (told .write-refused .ensures)

@@ -1,4 +1,5 @@
 -- `text::turn::rule_line` meets its contract: what was read of the line decides. Assumes nothing.
+use mathlib.Core.Path.{refl}
 use borrow.Author.Needs.{needs}
 use Rattle.lines.specs.Rule.{ruleFound}
 use Rattle.text.proofs.WroteLaws.{wrote-none}
@@ -42,7 +43,7 @@ write-refusal-requires c κs = search needs
 returns : tie.Need-returns
 returns c = λ store.
     let read = c .before .before .read-rule in
-    rw (read-found ruleFound _ _ _ _ (read .ensures) (c .enum-told .given .1)) (turned-nothing _ _ _)
+    rw (read-found ruleFound _ _ _ _ (read .ensures) (c .enum-told .given .1)) (turned-nothing _ _ _ _ _ _ refl)
 
 same-length : tie.Need-same-length
 same-length c = search needs
@@ -63,7 +64,10 @@ returns-3 c = λ store.
     let known = told .before .before .before .before .before in
     let read = known .before .before .read-rule in
     rw (read-found ruleFound _ _ _ _ (read .ensures) (known .rule2 .given .1))
-    (record { left = rw (told .before .before .before .ended .ensures); wrote = rw (told .before .number .ensures) at (told .write-refusal .ensures) })
+    (record {
+      left = rw (told .before .before .before .ended .ensures);
+      wrote = rw (told .before .number .ensures) at (told .write-refusal .ensures);
+    })
 
 pub rule-line-spec : {M : Type 1} → statement M
 rule-line-spec =

@@ -1,6 +1,6 @@
 -- `text::turn::turn` meets its contract, by the part of the text. Assumes nothing.
+use mathlib.Core.Path.{refl}
 use borrow.Author.Needs.{needs}
-use Rattle.text.specs.Turn.{desk}
 use Rattle.text.proofs.TurnLaws.{turned-nothing, turned-in}
 use Rattle.text.proofs.turn.turn.Statement.{statement}
 use Rattle.text.proofs.turn.turn.Tie as tie
@@ -33,8 +33,7 @@ returns : tie.Need-returns
 returns c =
     let told = c .before .before .before .before .before .before in
     let known = told .before .before .before .before in
-    let entry = known .before .before .before .before .before .before .args in
-    turned-in _ (desk (entry .stage) (entry .table .now) (entry .store .now)) _ _ _ _ _ _ _ (known .enum-told .given .1) (told .before-frames .ensures)
+    turned-in _ _ _ _ _ _ _ _ _ _ _ (known .enum-told .given .1) (told .before-frames .ensures)
 
 same-length-4 : tie.Need-same-length-4
 same-length-4 c = search needs
@@ -49,13 +48,11 @@ returns-2 : tie.Need-returns-2
 returns-2 c =
     let told = c .before .before .before .before in
     let known = told .before .before .before .before in
-    let entry = known .before .before .before .before .before .before .args in
-    turned-in _ (desk (entry .stage) (entry .table .now) (entry .store .now)) _ _ _ _ _ _ _ (known .enum-told2 .given .1) (told .frame-line .ensures)
+    turned-in _ _ _ _ _ _ _ _ _ _ _ (known .enum-told2 .given .1) (told .frame-line .ensures)
 
 returns-3 : tie.Need-returns-3
 returns-3 c =
-    let entry = c .before .before .before .before .before .before .args in
-    turned-in _ (desk (entry .stage) (entry .table .now) (entry .store .now)) _ _ _ _ _ _ _ (c .enum-told3 .given .1) (turned-nothing _ _ _)
+    turned-in _ _ _ _ _ _ _ _ _ _ _ (c .enum-told3 .given .1) (turned-nothing _ _ _ _ _ _ refl)
 
 pub turn-spec : {M : Type 1} → statement M
 turn-spec =
