@@ -7,7 +7,6 @@ use Prim.Native.Nat.{ℕ}
 use Rattle.monitor.specs.declared.record.Record.{Record}
 use Rattle.monitor.specs.declared.answer.Judged.{Judged}
 use Rattle.monitor.specs.declared.answer.Started.{Started}
-use Rattle.monitor.specs.declared.answer.Timed.{Timed}
 use Rattle.monitor.specs.Start.{StartGives}
 use Rattle.monitor.specs.Step.{Setup, Call, StepGives, TimeGives}
 

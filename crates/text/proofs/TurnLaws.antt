@@ -1,7 +1,7 @@
 -- What a line brings, from what was read of it and what the monitor answered.
 use mathlib.Core.List.{List, [], _∷_, append-assoc}
-use mathlib.Core.Option.{Option, none, some}
-use mathlib.Core.Path.{_≡_, refl, sym, ap, _∙_}
+use mathlib.Core.Option.{none}
+use mathlib.Core.Path.{_≡_, sym, ap, _∙_}
 use Prim.Native.Nat.{ℕ, _+_, _≤_, _<_}
 use native.Mathlib.Omega.{arith}
 use borrow.Author.Tests.{leb-false}
@@ -11,17 +11,12 @@ use lib.ListN.{length, take, drop, set}
 use lib.Seq.{sets-eq}
 use Rattle.rules.specs.Limits.{rowLimit, rowNumbers}
 use Rattle.refusals.specs.Refusals.{Refused, refused}
-use Rattle.rules.specs.Rows.{rowsOf}
-use Rattle.rules.specs.Stretches.{needOf}
-use Rattle.rules.specs.Table.{checkReplyBy, lengthPasses, firstFault, checkOf}
 use Rattle.refusals.specs.declared.refusal.Refusal.{Refusal}
-use Rattle.refusals.specs.declared.refusal.Refusal.the-variants.{Length}
 use Rattle.lines.specs.Digits.{byteAt, overwritten}
 use Rattle.lines.specs.Line.{lineFeed}
 use Rattle.lines.specs.Rule.{readRule}
 use Rattle.lines.specs.Read as read
-use Rattle.monitor.specs.Ready.{withRoom, readyOf}
-use Rattle.monitor.specs.Start.{begin, startOf, saidStart}
+use Rattle.monitor.specs.Start.{startOf, StartGives}
 use Rattle.monitor.specs.Step.{said, saidStep, frame}
 use Rattle.monitor.specs.declared.answer.StartAnswer.the-variants as StartAnswer
 use Rattle.monitor.specs.declared.answer.Started.{Started}
@@ -32,9 +27,10 @@ use Rattle.text.specs.declared.state.Stage.{Stage}
 use Rattle.text.specs.declared.turn.Told.{Told}
 use Rattle.text.specs.Replies.{needLine, refusedLine, Wrote}
 use Rattle.text.specs.Transcript.{frameJudged, replyOf}
-use Rattle.text.specs.Turn.{Desk, Turn, desk, rowsRead, runningAt, needSaid, staged, Turned}
+use Rattle.text.specs.Turn.{Desk, Turn, desk, rowsRead, runningAt, staged, Turned}
 use Rattle.text.specs.Turn.{ruleTurn, emptyTurn, beforeFrames, frameTurn, turnIn, lineTurn}
 use Rattle.meaning.proofs.Truths.{by-test}
+use Rattle.monitor.proofs.ReadyLaws.{start-need}
 use Rattle.text.proofs.WroteLaws.{wrote-none}
 
 -- What was read is what was found.
@@ -65,38 +61,23 @@ row-stored table place kind x y a b room =
     rw (add-one place, add-two place, add-three place, add-four place)
     (sets-eq row table place room ∙ append-assoc (take place table) row (drop (place + rowNumbers) table))
 
-refusal-clash : (fault : Refused) → some fault ≡ none → ⊥
-refusal-clash fault is = let z : _≡_ {A = ℕ} 0 1 = cc in omega arith
-
--- A start that is not refused has a table that passes, and its need is the table's.
-start-need : (table store : List ℕ) → startOf table store .refusal ≡ none → needSaid (checkOf table) ≡ needOf table
-unfolding startOf readyOf checkOf
-start-need table store good =
-    by-test (lengthPasses (length table))
-    (λ passes. rw passes (by-fault (firstFault table (rowsOf table)) (rw passes at good)))
-    (λ fails. absurd (refusal-clash (refused Length) (rw fails at good)))
-  where
-    by-fault : (fault : Option Refused) → begin store (withRoom (length store) (checkReplyBy fault (rowsOf table) (needOf table))) .refusal ≡ none
-        → needSaid (checkReplyBy fault (rowsOf table) (needOf table)) ≡ needOf table
-    by-fault none good = refl
-    by-fault (some fault) good = absurd (refusal-clash fault good)
-
 module _ (stage : Stage) (table store out : List ℕ) (place next : ℕ) (after : List ℕ) where
   -- The rows that the monitor starts on.
   abbrev readRows : List ℕ
   readRows = rowsRead (desk stage table store)
 
-  pub start-good : (s : Started) (store′ : List ℕ) → saidStart s store′ ≡ startOf readRows store → s .answer ≡ StartAnswer.Good
-      → Wrote out place (needLine (needSaid (checkOf readRows))) next after
+  pub start-good : (s : Started) (store′ : List ℕ) (need : ℕ) → StartGives readRows store s store′ → s .answer ≡ StartAnswer.Good need
+      → Wrote out place (needLine need) next after
       → Turned emptyTurn stage table store out place (record { stage = staged Frames (stage .rows) (s .record); place = next }) table store′ after
-  start-good s store′ is good wrote =
+  start-good s store′ need is good wrote =
       let started : startOf readRows store .refusal ≡ none = rw (← is, good) in
+      let answered : startOf readRows store .need ≡ need = rw (← is, good) in
       record {
         left = rw (← is, good);
-        wrote = rw (started, ← start-need readRows store started) wrote;
+        wrote = rw (started, ← start-need readRows store started, answered) wrote;
       }
 
-  pub start-refused : (s : Started) (store′ : List ℕ) (fault : Refusal) → saidStart s store′ ≡ startOf readRows store
+  pub start-refused : (s : Started) (store′ : List ℕ) (fault : Refusal) → StartGives readRows store s store′
       → s .answer ≡ StartAnswer.Refused fault
       → Wrote out place (refusedLine (refused fault)) next after
       → Turned emptyTurn stage table store out place (record { stage = staged Over (stage .rows) (s .record); place = next }) table store′ after

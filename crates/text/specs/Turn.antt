@@ -86,11 +86,6 @@ abbrev pub startText : ℕ → Option Refused → List ℕ
 startText need none = needLine need
 startText need (some fault) = refusedLine fault
 
--- The need that a check of the table says.
-abbrev pub needSaid : table.CheckReply → ℕ
-needSaid (table.passed rows need) = need
-needSaid (table.refusedBy fault) = 0
-
 abbrev pub startTurn : Desk → Beginning → Turn
 startTurn d start =
     record {

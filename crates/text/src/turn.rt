@@ -7,13 +7,12 @@ ghost use Prim.Native.Nat.{ℕ, _+_, _≤_, _<_};
 ghost use lib.Dec.{eqb};
 ghost use lib.ListN.{length};
 ghost use Rattle.rules.specs.Limits.{rowLimit, rowNumbers};
-ghost use Rattle.rules.specs.Table.{checkOf};
 ghost use Rattle.lines.specs.Digits.{byteAt, overwritten};
 ghost use Rattle.lines.specs.Line.{lineFeed};
 ghost use Rattle.lines.specs.Read.{goodLine};
 ghost use Rattle.lines.specs.Frame.{readFrame};
 ghost use Rattle.lines.specs.Rule.{readRule};
-ghost use Rattle.text.specs.Turn.{Room, needSaid, staged, beforeFrames, emptyTurn, ruleTurn, frameTurn, lineTurn, Turned};
+ghost use Rattle.text.specs.Turn.{Room, staged, beforeFrames, emptyTurn, ruleTurn, frameTurn, lineTurn, Turned};
 ghost use Rattle.text.specs.declared.state.Part.the-variants as Part;
 use crate::replies::write_need;
 use crate::replies::write_refusal;
@@ -31,7 +30,6 @@ use monitor::start::start;
 use refusals::refusal::Refusal;
 use rules::limits::ROW_LIMIT;
 use rules::limits::ROW_NUMBERS;
-use rules::table::Checked;
 
 // The stage after the line, and the place after what was written.
 pub(crate) struct Told {
@@ -159,7 +157,7 @@ fn add_row(table: &mut [u32], place: usize, kind: u32, x: u32, y: u32, a: u32, b
     table[place + 4] = b;
 }
 
-// The empty line: the table is checked, and the monitor starts.
+// The empty line: the monitor starts, which checks the table, and answers the need.
 fn empty_line(stage: Stage, table: &[u32], store: &mut [u64], out: &mut [u8], place: usize) -> Told
     requires { ⌜ Room stage (now table) (now out) place ⌝ }
     ensures { λ r. ⌜ Turned emptyTurn
@@ -173,13 +171,13 @@ fn empty_line(stage: Stage, table: &[u32], store: &mut [u64], out: &mut [u8], pl
     let answer = started.answer;
     let found = started.record;
     match answer {
-        StartAnswer::Good => Told {
+        StartAnswer::Good { need } => Told {
             stage: Stage {
                 part: Part::Frames,
                 rows,
                 found,
             },
-            place: write_need(out, place, need_of(read)),
+            place: write_need(out, place, need),
         },
         StartAnswer::Refused(fault) => Told {
             stage: Stage {
@@ -189,16 +187,6 @@ fn empty_line(stage: Stage, table: &[u32], store: &mut [u64], out: &mut [u8], pl
             },
             place: write_refused(out, place, fault),
         },
-    }
-}
-
-// The need of a table that passes, 0 of any other.
-fn need_of(table: &[u32]) -> u64
-    ensures { λ r. ⌜ r ≡ needSaid (checkOf (now (table .entry))) ⌝ }
-{
-    match rules::table::check(table) {
-        Checked::Passed { rows: _, need } => need,
-        Checked::Refused(_) => 0,
     }
 }
 

@@ -23,17 +23,14 @@ part-read-end c = search needs
 start-requires : tie.Need-start-requires
 start-requires c κs = search needs
 
-enum-told : tie.Need-enum-told
-enum-told c = search needs
-
-need-of-requires : tie.Need-need-of-requires
-need-of-requires c κs = search needs
+enum-known-answer : tie.Need-enum-known-answer
+enum-known-answer c = search needs
 
 write-need-requires : tie.Need-write-need-requires
 write-need-requires c κs = search needs
 
-enum-known-answer : tie.Need-enum-known-answer
-enum-known-answer c = search needs
+enum-known-answer-2 : tie.Need-enum-known-answer-2
+enum-known-answer-2 c = search needs
 
 write-refused-requires : tie.Need-write-refused-requires
 write-refused-requires c κs = search needs
@@ -51,10 +48,10 @@ returns c =
     let started = known .before .before .before .before .before in
     let entry = started .before .before .before .before .before .before .args in
     let whole : entry .stage .rows * rowNumbers - 0 ≡ entry .stage .rows * rowNumbers = omega arith in
-    start-good (entry .stage) (entry .table .now) (entry .store .now) _ _ _ _ (started .start .result) _
+    start-good (entry .stage) (entry .table .now) (entry .store .now) _ _ _ _ (started .start .result) _ _
     (rw whole at (started .start .ensures))
-    (known .enum-told .given .1)
-    (rw (told .before .need-of .ensures, whole) at (told .write-need .ensures))
+    (known .answer .given .1)
+    (told .write-need .ensures)
 
 same-length-3 : tie.Need-same-length-3
 same-length-3 c = search needs
@@ -71,7 +68,7 @@ returns-2 c =
     let whole : entry .stage .rows * rowNumbers - 0 ≡ entry .stage .rows * rowNumbers = omega arith in
     start-refused (entry .stage) (entry .table .now) (entry .store .now) _ _ _ _ (started .start .result) _ _
     (rw whole at (started .start .ensures))
-    (known .answer .given .1)
+    (known .answer2 .given .1)
     (told .write-refused .ensures)
 
 pub empty-line-spec : {M : Type 1} → statement M
@@ -83,10 +80,9 @@ empty-line-spec =
     part-read-start
     part-read-end
     start-requires
-    enum-told
-    need-of-requires
-    write-need-requires
     enum-known-answer
+    write-need-requires
+    enum-known-answer-2
     write-refused-requires
     same-length
     same-length-2
