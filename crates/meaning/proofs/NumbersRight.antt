@@ -14,7 +14,8 @@ use Rattle.meaning.specs.Spans.{_to_, clip, join, update}
 use Rattle.meaning.specs.Runs.{Runs}
 use Rattle.meaning.specs.Figure.{figure}
 use Rattle.meaning.specs.FrameTime.{frameTime}
-use Rattle.meaning.specs.Numbers.{AllRight, _and_, all, numbers, p, q, withP, withQ, at99, at100, at200, at201, twice5, nested, at1, at2, at3, at4, at5, at6}
+use Rattle.meaning.specs.Numbers.{AllRight, _and_, all, numbers, p, q, withP, withQ, twice5, nested}
+use Rattle.meaning.specs.Numbers.{at99, at100, at200, at201, at1, at2, at3, at4, at5, at6}
 use Rattle.meaning.proofs.Tells.{tells-not}
 use Rattle.meaning.proofs.FormulaLaws.{holds-told}
 use Rattle.meaning.proofs.HistoryLaws.{NoLater}

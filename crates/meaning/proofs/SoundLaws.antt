@@ -58,7 +58,8 @@ module _ (R : ℕ → Type 0) (t newest a : ℕ) (b : End) (source : (u : ℕ) �
       ⊎-elim
       (λ begins. omega arith)
       (λ later.
-      let earlier : R (first - 1) = origin .all (first - 1) (record { from = omega arith; to = end-trans (first - 1) first (origin .s +End b) (omega arith) (origin .near .to) }) in
+      let near : first - 1 ≤End (origin .s +End b) = end-trans (first - 1) first (origin .s +End b) (omega arith) (origin .near .to) in
+      let earlier : R (first - 1) = origin .all (first - 1) (record { from = omega arith; to = near }) in
       absurd
       (⊎-elim
       (λ inside.

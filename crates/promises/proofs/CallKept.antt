@@ -12,7 +12,7 @@ use Rattle.rules.specs.Rows.{rowsOf}
 use Rattle.refusals.specs.Refusals.{Refused, refused}
 use Rattle.refusals.specs.declared.refusal.Refusal.the-variants.{Earlier, Late}
 use Rattle.times.specs.Times.{timeLimit}
-use Rattle.monitor.specs.Record.{truthAt}
+use Rattle.monitor.specs.Record.{truthAt, clockOf}
 use Rattle.monitor.specs.Step.{setupOf, Call, timeOf, maskOf, refusalOf, verdict, refusal, stepOf}
 use Rattle.promises.specs.Stream.{State, call, next, Keeps, keeps?, eventOf}
 use Rattle.promises.proofs.Invariant.{Invariant}
@@ -28,7 +28,7 @@ refused-same table s c {fault} refused =
 
 module _ {table : List ℕ} {h : History} {clock : ℕ} {s : State} (inv : Invariant table h clock s) (c : Call) where
   -- The time of the call is the stream's.
-  time-same : timeOf (s .found .time) c ≡ timeOf clock c
+  time-same : timeOf (clockOf (s .found)) c ≡ timeOf clock c
   time-same = ap (λ (last : ℕ). timeOf last c) (inv .time)
 
   accepted : Keeps clock c → refusalOf (setupOf table) (s .store) (s .found) c ≡ none

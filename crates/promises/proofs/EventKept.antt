@@ -30,7 +30,7 @@ use Rattle.rules.specs.declared.stretch.Stretch.{Stretch}
 use Rattle.rules.proofs.KindsLaws.{PlainNames, KeeperLower, Names}
 use Rattle.rules.proofs.PassedLaws.{range-order, passed-formula}
 use Rattle.times.specs.Times.{timeLimit}
-use Rattle.monitor.specs.Record.{wasSeen, truthAt}
+use Rattle.monitor.specs.Record.{wasSeen, truthAt, clockOf, eventTime}
 use Rattle.spans.proofs.CoverLaws.{covered-told}
 use Rattle.monitor.proofs.EventLaws.{Room, length-store}
 use Rattle.monitor.proofs.RisingLaws.{truth-told}
@@ -67,7 +67,7 @@ module _ (m : Moment) (h : History) (of : ℕ → Formula) (r : ℕ) (row : Numb
 
   record Lower : Type 0 where
     seen : wasSeen (m .found) ≡ anySeen h
-    last : m .found .time ≡ lastTime h
+    last : eventTime (m .found) ≡ lastTime h
     before : (x : ℕ) → x < r → Says h (truthAt (m .found .truths) x) (of x)
     at : (x : ℕ) → x < r → Tells (truthAt truths x) (Holds (of x) (event ∷ h))
 
@@ -82,7 +82,7 @@ module _ (m : Moment) (h : History) (of : ℕ → Formula) (r : ℕ) (row : Numb
   plain-told Plain.Both after lower names = tells-and (lower .at (row .x) (names .0)) (lower .at (row .y) (names .1))
   plain-told Plain.Either after lower names = tells-or (lower .at (row .x) (names .0)) (lower .at (row .y) (names .1))
   plain-told Plain.Previous after lower names =
-      previous-told (of (row .x)) (row .a) (endOf (row .b)) event h (wasSeen (m .found)) (truthAt (m .found .truths) (row .x)) (m .found .time)
+      previous-told (of (row .x)) (row .a) (endOf (row .b)) event h (wasSeen (m .found)) (truthAt (m .found .truths) (row .x)) (eventTime (m .found))
       (lower .seen) (lower .last) (lower .before (row .x) names)
 
   -- What the columns of a stretch pick of the truths tells what they pick of the formulas.
@@ -194,7 +194,7 @@ module _ {table : List ℕ} {h : History} {clock : ℕ} {s : State} (inv : Invar
   spans-told : (row : ℕ) → row < rowsOf table → Spanned table row longer time (ruleOf (numbersAt table row)) (spansNow m row)
   spans-told row known = spans-follow row known (rows-told row (omega arith))
 
-  risen : s .found .time ≤ time
+  risen : clockOf (s .found) ≤ time
   risen = omega (arith, inv .time)
 
   spans-fit : Room m (rowsOf table)

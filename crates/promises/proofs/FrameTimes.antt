@@ -12,6 +12,7 @@ use Rattle.meaning.proofs.FrameTimeLaws.{true-close, next-true}
 use Rattle.refusals.specs.Refusals.{Refused}
 use Rattle.times.specs.Times.{timeLimit}
 use Rattle.monitor.specs.Step.{Call, event, frame, timeOf, Reply, verdict, refusal}
+use Rattle.monitor.specs.Record.{clockOf}
 use Rattle.promises.specs.Stream.{State, call, next, started, Keeps, keeps?, eventOf, kept}
 use Rattle.promises.specs.AsIfNotMade.{judged}
 use Rattle.promises.specs.LineTimes.{replies, recordTimes, Every, acceptedTimes}
@@ -96,7 +97,7 @@ module _ {table : List ℕ} {h : History} {s : State} (inv : Invariant table h (
     moves : Keeps (lastTime h) (frame counter mask) → lastTime (heard h (frame counter mask)) ≡ time
     moves kept = ap lastTime (heard-kept h (frame counter mask) kept) ∙ is-true
 
-    timed : Keeps (lastTime h) (frame counter mask) → next table s (frame counter mask) .found .time ≡ time
+    timed : Keeps (lastTime h) (frame counter mask) → clockOf (next table s (frame counter mask) .found) ≡ time
     timed kept = on (frame counter mask) .time ∙ moves kept
 
 module _ (table : List ℕ) where

@@ -16,7 +16,7 @@ use Rattle.rules.specs.Rows.{rowsOf, numbersAt, ruleOf}
 use Rattle.rules.specs.Stretches.{width}
 use Rattle.rules.specs.RowFormula.{formulaOf}
 use Rattle.spans.specs.Layout.{Laid}
-use Rattle.monitor.specs.Record.{wasSeen, truthAt, heldAt, stretchAt}
+use Rattle.monitor.specs.Record.{wasSeen, truthAt, heldAt, stretchAt, clockOf}
 use Rattle.promises.specs.Stream.{State}
 use Rattle.promises.specs.Conditions.{Ready, RecordRight}
 use Rattle.promises.specs.SoundIsKept.{Sized}
@@ -48,7 +48,7 @@ pub record Invariant (table : List ℕ) (h : History) (clock : ℕ) (s : State) 
   -- Time: the clock is the last kept time, none is later, and the record has it.
   pub now : clock ≡ lastTime h
   pub ordered : NoLater clock h
-  pub time : s .found .time ≡ clock
+  pub time : clockOf (s .found) ≡ clock
   pub seen : wasSeen (s .found) ≡ anySeen h
   -- Room: the table is right, and the store has its need.
   pub ready : Ready table (length (s .store))

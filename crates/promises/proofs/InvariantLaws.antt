@@ -26,5 +26,5 @@ module _ {table : List ℕ} {h : History} {clock : ℕ} {s : State} (inv : Invar
       let within : clock ≤ timeLimit = omega (arith, inv .time, inv .sound .limit) in
       let S = inv .follows row known .spans in
       laid-read (inv .follows row known .laid)
-      (row-stored (numbersAt table row) clock S within range
+      (row-stored (numbersAt table row) clock clock S within range
       (spanned-sound table row h clock (inv .ordered) range (ruleOf (numbersAt table row)) S (inv .follows row known .spanned)))

@@ -26,7 +26,7 @@ use Rattle.spans.proofs.CoverLaws.{covered-told}
 use Rattle.spans.proofs.LayoutLaws.{laid-read}
 use Rattle.monitor.proofs.RisingLaws.{truth-told}
 use Rattle.monitor.specs.declared.record.Record.{Record}
-use Rattle.monitor.specs.Record.{truthAt, spansFound}
+use Rattle.monitor.specs.Record.{truthAt, spansFound, clockOf, eventTime}
 use Rattle.monitor.specs.Event.{Moment, spansAfter, truthOf, truthsAfter, spansNow, storeAfter, recordAfter}
 use Rattle.monitor.specs.Step.{Setup, Call, refusalOf, momentOf, verdict, stepOf}
 use Rattle.promises.specs.Conditions.{RowSound, StretchRight}
@@ -94,19 +94,20 @@ module _
     kept = all-stretches (setup .table) store (accepted .ready) found (accepted .sound) row lower
 
     found-is : S ≡ kept .spans
-    found-is = laid-read (kept .laid) (row-stored n (found .time) (kept .spans) (accepted .sound .limit) range (kept .sound))
+    found-is = laid-read (kept .laid) (row-stored n (clockOf found) (eventTime found) (kept .spans) (accepted .sound .limit) range (kept .sound))
 
     found-laid : LaysOut (setup .table) row store found S
     found-laid = rw found-is (kept .laid)
 
-    found-sound : RowSound n (found .time) (found .time) S
+    found-sound : RowSound n (clockOf found) (eventTime found) S
     found-sound = rw found-is (kept .sound)
 
-    found-rising : Rising (found .time) S
-    found-rising = sound-rising (found .time) (found .time + n .a) (found .time +End endOf (n .b)) (lengthOf (n .a) (endOf (n .b))) S found-sound
+    found-rising : Rising (clockOf found) S
+    found-rising =
+        sound-rising (clockOf found) (eventTime found + n .a) (eventTime found +End endOf (n .b)) (lengthOf (n .a) (endOf (n .b))) S found-sound
 
     found-under : Under (m .time + n .a) (m .time +End endOf (n .b)) (clip (m .time) S)
-    found-under = clipped-under (found .time) (m .time) (n .a) (endOf (n .b)) S order (accepted .risen) found-sound
+    found-under = clipped-under (clockOf found) (m .time) (eventTime found) (n .a) (endOf (n .b)) S order (accepted .risen) (accepted .risen) found-sound
 
     has-entry : (r : ℕ) → r < rowsOf (setup .table) → r < length (found .truths)
     has-entry r known = omega (arith, accepted .ready .right .lengths .most, sized .truths)
@@ -134,14 +135,14 @@ module _
     unfolding spansAfter
     now-rising =
         rw since
-        (update-rising (found .time) (m .time) (n .a) (endOf (n .b)) S order found-rising found-under keeps
+        (update-rising (clockOf found) (m .time) (n .a) (endOf (n .b)) S order found-rising found-under keeps
         feeds)
 
     now-exact : (u : ℕ) → In u (spansNow m row) ↔ BelongsAfter (setup .table) row columns (recordAfter m) (m .time) S u
     unfolding spansAfter recordAfter
     now-exact u =
         rw (since, keeps-stay, feeds-stay)
-        (update-in (found .time) (m .time) (n .a) (endOf (n .b)) S order found-rising found-under keeps
+        (update-in (clockOf found) (m .time) (n .a) (endOf (n .b)) S order found-rising found-under keeps
         feeds u)
 
     now-true : T (truthAt (recordAfter m .truths) row) ↔ InOrOut (columns .inside) (In (m .time) (spansNow m row))

@@ -21,7 +21,8 @@ use Rattle.lines.specs.Frame.{frameWidths}
 use Rattle.lines.specs.Rule.{ruleWidths}
 use Rattle.lines.proofs.DigitLaws.{digitsAt-most}
 use Rattle.lines.proofs.LineLaws.{next-past}
-use Rattle.promises.specs.Reading.{Digit, number, letter, WellFormed, SumRight, LineRefused, eight, nine, LineGood, SaidExactly, dataBytes, counterAndMask, ruleNumbers, ReadRefusedExactly, NoLineFeed, Past, first, none, PlaceMoves}
+use Rattle.promises.specs.Reading.{Digit, number, letter, WellFormed, SumRight, LineRefused, eight, nine, LineGood, SaidExactly}
+use Rattle.promises.specs.Reading.{dataBytes, counterAndMask, ruleNumbers, ReadRefusedExactly, NoLineFeed, Past, first, none, PlaceMoves}
 use Rattle.promises.proofs.Deciding.{told-true, told-false}
 
 digit-told : (byte : ℕ) → Tells (isDigit byte) (Digit byte)

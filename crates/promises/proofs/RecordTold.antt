@@ -14,7 +14,7 @@ use Rattle.rules.specs.Rows.{rowsOf, numbersAt}
 use Rattle.rules.specs.Stretches.{spansOf}
 use Rattle.monitor.specs.declared.record.Record.{Record}
 use Rattle.times.specs.Times.{timeLimit}
-use Rattle.monitor.specs.Record.{wasSeen, truthAt}
+use Rattle.monitor.specs.Record.{wasSeen, truthAt, clockOf, eventTime}
 use Rattle.monitor.specs.Soundness.{soundEntry?, soundRow?, zeroPast?, soundTime?, sound?}
 use Rattle.monitor.proofs.RecordLaws.{byte-unset}
 use Rattle.promises.specs.Conditions.{Ready, StretchRight, RecordRight}
@@ -35,17 +35,17 @@ unset-at truths row none = rw none refl
 -- What the test asks of the time, of a row of the table, and of what stands past the rows.
 record TimeRight (found : Record) : Type 0 where
   byte : found .seen ≤ 1
-  unseen : T (wasSeen found) ⊎ (found .time ≡ 0)
-  limit : found .time ≤ timeLimit
+  unseen : T (wasSeen found) ⊎ (clockOf found ≡ 0)
+  limit : clockOf found ≤ timeLimit
 
-time-told : (found : Record) → Tells (soundTime? (found .seen) (found .time)) (TimeRight found)
+time-told : (found : Record) → Tells (soundTime? (found .seen) (clockOf found)) (TimeRight found)
 time-told found =
     tells-same
     (λ h. record { byte = h .0 .0; unseen = h .0 .1; limit = h .1 })
     (λ time. ((time .byte, time .unseen), time .limit))
     (tells-and
-    (tells-and (tells-leb (found .seen) 1) (tells-or (tells-flag (wasSeen found)) (tells-eqb (found .time) 0)))
-    (tells-leb (found .time) timeLimit))
+    (tells-and (tells-leb (found .seen) 1) (tells-or (tells-flag (wasSeen found)) (tells-eqb (clockOf found) 0)))
+    (tells-leb (clockOf found) timeLimit))
 
 record EntryRight (table : List ℕ) (found : Record) (row : ℕ) : Type 0 where
   byte : getD (found .truths) row 0 ≤ 1
@@ -78,7 +78,7 @@ record Tested (table store : List ℕ) (found : Record) : Type 0 where
   past : (row : ℕ) → row < rowLimit → (row < rowsOf table) ⊎ Blank found row
 
 module _ (table store : List ℕ) (ready : Ready table (length store)) (found : Record) where
-  row-told : found .time ≤ timeLimit
+  row-told : eventTime found ≤ timeLimit
       → (row : ℕ)
       → row < rowsOf table
       → Tells (soundRow? table store found row) (EntryRight table found row × StretchRight table store found row)

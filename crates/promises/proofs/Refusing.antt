@@ -16,7 +16,7 @@ use Rattle.rules.specs.Table.{CheckReply, passed, refusedBy, checkOf}
 use Rattle.refusals.specs.declared.refusal.Refusal.the-variants.{Earlier, Late, Unsound}
 use Rattle.monitor.specs.declared.record.Record.{Record}
 use Rattle.times.specs.Times.{timeLimit}
-use Rattle.monitor.specs.Record.{nothingSeen}
+use Rattle.monitor.specs.Record.{nothingSeen, clockOf}
 use Rattle.monitor.specs.Ready.{readyOf}
 use Rattle.monitor.specs.Event.{Moment, recordAfter}
 use Rattle.monitor.specs.Start.{begin, startOf}
@@ -51,8 +51,8 @@ start-exactly table store =
 pub record Accepted (setup : Setup) (store : List ℕ) (found : Record) (c : Call) : Type 0 where
   pub ready : Ready (setup .table) (length store)
   pub sound : RecordRight (setup .table) store found
-  pub early : timeOf (found .time) c ≤ timeLimit
-  pub risen : found .time ≤ timeOf (found .time) c
+  pub early : timeOf (clockOf found) c ≤ timeLimit
+  pub risen : clockOf found ≤ timeOf (clockOf found) c
 
 module _ (setup : Setup) (store : List ℕ) (found : Record) (c : Call) where
   call-refuses : (fault : Refused) → CallRefused setup store found c fault → refusalOf setup store found c ≡ some fault
@@ -64,14 +64,14 @@ module _ (setup : Setup) (store : List ℕ) (found : Record) (c : Call) where
       rw (
         start-passes (setup .table) (length store) ready,
         told-true (record-told (setup .table) store ready found) right,
-        lt-leb (timeOf (found .time) c) timeLimit late,
+        lt-leb (timeOf (clockOf found) c) timeLimit late,
       )
   call-refuses _ (five ready right early before) =
       rw (
         start-passes (setup .table) (length store) ready,
         told-true (record-told (setup .table) store ready found) right,
-        le-leb (timeOf (found .time) c) timeLimit early,
-        lt-leb (found .time) (timeOf (found .time) c) before,
+        le-leb (timeOf (clockOf found) c) timeLimit early,
+        lt-leb (clockOf found) (timeOf (clockOf found) c) before,
       )
 
   pub call-passes : Accepted setup store found c → refusalOf setup store found c ≡ none
@@ -80,8 +80,8 @@ module _ (setup : Setup) (store : List ℕ) (found : Record) (c : Call) where
       rw (
         start-passes (setup .table) (length store) (accepted .ready),
         told-true (record-told (setup .table) store (accepted .ready) found) (accepted .sound),
-        le-leb (timeOf (found .time) c) timeLimit (accepted .early),
-        le-leb (found .time) (timeOf (found .time) c) (accepted .risen),
+        le-leb (timeOf (clockOf found) c) timeLimit (accepted .early),
+        le-leb (clockOf found) (timeOf (clockOf found) c) (accepted .risen),
       )
 
   -- One of the two is so: by the times, by the record, and from the start.
@@ -95,9 +95,9 @@ module _ (setup : Setup) (store : List ℕ) (found : Record) (c : Call) where
       ⊎-map
       (λ risen. record { ready = ready; sound = sound; early = early; risen = risen })
       (λ before. (refused Earlier, five ready sound early before))
-      (le-or-lt (found .time) (timeOf (found .time) c)))
+      (le-or-lt (clockOf found) (timeOf (clockOf found) c)))
       (λ late. inr (refused Late, six ready sound late))
-      (le-or-lt (timeOf (found .time) c) timeLimit)
+      (le-or-lt (timeOf (clockOf found) c) timeLimit)
 
   record-decided : Ready (setup .table) (length store) → Decided
   record-decided ready =

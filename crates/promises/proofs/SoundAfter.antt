@@ -14,7 +14,7 @@ use Rattle.rules.specs.Stretches.{needOf}
 use Rattle.rules.specs.declared.numbers.Numbers.{Numbers}
 use Rattle.rules.proofs.PassedLaws.{InRange, range-order}
 use Rattle.times.specs.Times.{timeLimit}
-use Rattle.monitor.specs.Record.{truthAt, spansFound}
+use Rattle.monitor.specs.Record.{truthAt, spansFound, clockOf, eventTime}
 use Rattle.monitor.specs.Event.{Moment, spansBy, spansAfter, truthsAfter, spansNow}
 use Rattle.spans.proofs.LayoutLaws.{laid-read}
 use Rattle.meaning.proofs.SoundKept.{sound-kept}
@@ -32,7 +32,7 @@ monitor-met : (m : Moment)
     → Ready (m .table) (length (m .store))
     → RecordRight (m .table) (m .store) (m .found)
     → m .time ≤ timeLimit
-    → m .found .time ≤ m .time
+    → clockOf (m .found) ≤ m .time
     → Accepted (m .table) (m .store) (m .found) (m .time)
 monitor-met m ready right early risen =
     record {
@@ -46,7 +46,7 @@ pub room-after : (m : Moment)
     → Ready (m .table) (length (m .store))
     → RecordRight (m .table) (m .store) (m .found)
     → m .time ≤ timeLimit
-    → m .found .time ≤ m .time
+    → clockOf (m .found) ≤ m .time
     → Room m (rowsOf (m .table))
 room-after m ready right early risen row lower = row-enough m (monitor-met m ready right early risen) row lower (truthsAfter m row)
 
@@ -54,7 +54,7 @@ module _
     (m : Moment)
     (ready : Ready (m .table) (length (m .store)))
     (right : RecordRight (m .table) (m .store) (m .found))
-    (risen : m .found .time ≤ m .time)
+    (risen : clockOf (m .found) ≤ m .time)
     (row : ℕ)
     (lower : row < rowsOf (m .table))
   where
@@ -67,16 +67,16 @@ module _
     range : InRange (n .a) (n .b)
     range = in-range-of (ready .right .rows row lower .1)
 
-    found-sound : RowSound n (m .found .time) (m .found .time) before
+    found-sound : RowSound n (clockOf (m .found)) (eventTime (m .found)) before
     found-sound =
         let kept : StretchRight (m .table) (m .store) (m .found) row = all-stretches (m .table) (m .store) ready (m .found) right row lower in
-        rw (laid-read (kept .laid) (row-stored n (m .found .time) (kept .spans) (right .limit) range (kept .sound))) (kept .sound)
+        rw (laid-read (kept .laid) (row-stored n (clockOf (m .found)) (eventTime (m .found)) (kept .spans) (right .limit) range (kept .sound))) (kept .sound)
 
     by-sound : (truths : List ℕ) (rule : Rule) → RowSound n (m .time) (m .time) (spansBy (m .time) truths before n rule)
     by-sound truths (plain says) = none-sound (m .time) (m .time + n .a) (m .time +End endOf (n .b)) (lengthOf (n .a) (endOf (n .b)))
     by-sound truths (stretch columns) =
-        sound-kept (keptBy true (truthAt truths) n (columns .keep)) (fedBy not (truthAt truths) n columns) (m .found .time) (m .time) (m .found .time) (n .a)
-        (m .found .time + n .a) (m .time + n .a) (endOf (n .b)) before
+        sound-kept (keptBy true (truthAt truths) n (columns .keep)) (fedBy not (truthAt truths) n columns)
+        (clockOf (m .found)) (m .time) (eventTime (m .found)) (n .a) (eventTime (m .found) + n .a) (m .time + n .a) (endOf (n .b)) before
         (range-order (n .a) (n .b) range) risen risen (omega arith) (omega arith) found-sound
 
     pub now-sound : RowSound n (m .time) (m .time) (spansNow m row)

@@ -12,7 +12,7 @@ use Rattle.rules.specs.Rows.{rowsOf, numbersAt}
 use Rattle.rules.specs.Stretches.{spansOf}
 use Rattle.monitor.specs.declared.record.Record.{Record}
 use Rattle.times.specs.Times.{timeLimit}
-use Rattle.monitor.specs.Record.{isTrue}
+use Rattle.monitor.specs.Record.{isTrue, clockOf}
 use Rattle.monitor.specs.Event.{Moment, truthOf, truthsAfter, spansNow, countsAfter, storeAfter, recordAfter}
 use Rattle.monitor.specs.Step.{Setup, refusalOf, momentOf, verdict, outcomeBy, stepOf}
 use Rattle.monitor.proofs.RecordLaws.{byte-small}
@@ -33,7 +33,7 @@ module _
     (m : Moment)
     (ready : Ready (m .table) (length (m .store)))
     (right : RecordRight (m .table) (m .store) (m .found))
-    (risen : m .found .time ≤ m .time)
+    (risen : clockOf (m .found) ≤ m .time)
     (early : m .time ≤ timeLimit)
     (sized : Sized (m .found))
   where

@@ -16,7 +16,7 @@ use Rattle.rules.specs.Stretches.{width, offset, needOf}
 use Rattle.rules.specs.Table.{CheckReply, passed, refusedBy}
 use Rattle.rules.proofs.StretchesLaws.{stretch-before}
 use Rattle.monitor.specs.declared.record.Record.{Record}
-use Rattle.monitor.specs.Record.{stretchAt}
+use Rattle.monitor.specs.Record.{stretchAt, clockOf}
 use Rattle.monitor.specs.Soundness.{every, soundRow?, sound?}
 use Rattle.monitor.specs.Ready.{readyOf}
 use Rattle.monitor.specs.Start.{startOf}
@@ -79,7 +79,7 @@ module _ (setup : Setup) (store other : List ℕ) (found : Record) (c : Call) (a
 
   -- The call at the one store and at the other.
   abbrev time : ℕ
-  time = timeOf (found .time) c
+  time = timeOf (clockOf found) c
 
   abbrev m : Moment
   m = momentOf setup store found c

@@ -26,7 +26,7 @@ use Rattle.rules.proofs.StretchesLaws.{spans-by-column, stretch-before}
 use Rattle.monitor.specs.declared.record.Record.{Record}
 use Rattle.spans.specs.Layout.{wordsOf, packed}
 use Rattle.times.specs.Times.{timeLimit}
-use Rattle.monitor.specs.Record.{heldAt, stretchAt}
+use Rattle.monitor.specs.Record.{heldAt, stretchAt, clockOf, eventTime}
 use Rattle.monitor.specs.Soundness.{soundLimits?}
 use Rattle.spans.proofs.LayoutLaws.{Stored}
 use Rattle.spans.proofs.SoundTold.{sound-stored, stretch-told}
@@ -73,28 +73,30 @@ past-other table row right past since =
     omega arith
 
 -- Sound spans can be stored.
-pub row-stored : (n : Numbers) (now : ℕ) (S : List Span) → now ≤ timeLimit → InRange (n .a) (n .b) → RowSound n now now S → Stored S
-row-stored n now S within range sound =
-    sound-stored now (now + n .a) (now +End endOf (n .b)) (lengthOf (n .a) (endOf (n .b))) S (latest-storable now (n .a) (n .b) within range) sound
+pub row-stored : (n : Numbers) (now event : ℕ) (S : List Span) → event ≤ timeLimit → InRange (n .a) (n .b) → RowSound n now event S → Stored S
+row-stored n now event S within range sound =
+    sound-stored now (event + n .a) (event +End endOf (n .b)) (lengthOf (n .a) (endOf (n .b))) S
+    (latest-storable event (n .a) (n .b) within range) sound
 
 module _ (table store : List ℕ) (ready : Ready table (length store)) (found : Record) where
   stretch-length : (row : ℕ) → row < rowsOf table → length (stretchAt table store row) ≡ width (numbersAt table row)
   stretch-length row lower = length-stretch table store row (omega (arith, stretch-before table row (rowsOf table) lower, ready .room))
 
-  pub row-stretch-told : found .time ≤ timeLimit
+  pub row-stretch-told : eventTime found ≤ timeLimit
       → (row : ℕ)
       → row < rowsOf table
-      → Tells (soundLimits? (stretchAt table store row) (heldAt found row) (found .time) (found .time) (numbersAt table row)) (StretchRight table store found row)
+      → Tells (soundLimits? (stretchAt table store row) (heldAt found row) (clockOf found) (eventTime found) (numbersAt table row))
+      (StretchRight table store found row)
   row-stretch-told early row lower =
       let n = numbersAt table row in
-      let now = found .time in
+      let event = eventTime found in
       let range : InRange (n .a) (n .b) = in-range-of (ready .right .rows row lower .1) in
       let size : length (stretchAt table store row) ≡ width n = stretch-length row lower in
       tells-same
       (λ stretch. record { spans = stretch .spans; laid = rw (← size) (stretch .laid); sound = stretch .sound })
       (λ stretch. record { spans = stretch .spans; laid = rw size (stretch .laid); sound = stretch .sound })
-      (stretch-told (stretchAt table store row) (heldAt found row) now (now + n .a) (now +End endOf (n .b))
-      (lengthOf (n .a) (endOf (n .b))) (latest-storable now (n .a) (n .b) early range))
+      (stretch-told (stretchAt table store row) (heldAt found row) (clockOf found) (event + n .a) (event +End endOf (n .b))
+      (lengthOf (n .a) (endOf (n .b))) (latest-storable event (n .a) (n .b) early range))
 
   pub other-stretch : (row : ℕ) → ¬ IsSince (numbersAt table row) → getD (found .counts) row 0 ≡ 0 → StretchRight table store found row
   unfolding stretchAt packed wordsOf
@@ -103,5 +105,5 @@ module _ (table store : List ℕ) (ready : Ready table (length store)) (found : 
       record {
         spans = [];
         laid = record { written = rw (other-spans n other); counted = none };
-        sound = none-sound (found .time) (found .time + n .a) (found .time +End endOf (n .b)) (lengthOf (n .a) (endOf (n .b)));
+        sound = none-sound (clockOf found) (eventTime found + n .a) (eventTime found +End endOf (n .b)) (lengthOf (n .a) (endOf (n .b)));
       }

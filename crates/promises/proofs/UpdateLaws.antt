@@ -78,12 +78,13 @@ sound-rising now latestFirst noEnd long ((first to upTo last) ∷ S) sound = abs
 sound-rising now latestFirst noEnd long ((first to noEnd) ∷ S) sound = (sound .0, sound .2)
 
 -- A list that was sound at `now` leaves room at its end, once clipped at t.
-pub clipped-under : (now t a : ℕ) (b : End) (S : List Span)
+pub clipped-under : (now t event a : ℕ) (b : End) (S : List Span)
     → a ≤End b
     → now ≤ t
-    → SoundSpans now (now + a) (now +End b) (lengthOf a b) S
+    → event ≤ t
+    → SoundSpans now (event + a) (event +End b) (lengthOf a b) S
     → Under (t + a) (t +End b) (clip t S)
 unfolding update
-clipped-under now t a b S order later sound =
+clipped-under now t event a b S order present seen sound =
     sound-under t a b (clip t S) order
-    (sound-kept true false now t now a (now + a) (max t (t + a)) b S order later later (omega arith) (omega arith) sound)
+    (sound-kept true false now t event a (event + a) (max t (t + a)) b S order present seen (omega arith) (omega arith) sound)

@@ -19,6 +19,7 @@ use Rattle.lines.specs.Frame.{readFrame}
 use Rattle.lines.specs.Rule.{readRule}
 use Rattle.meaning.proofs.Truths.{by-test}
 use Rattle.lines.proofs.WriteLaws.{length-digits}
+use Rattle.monitor.specs.Record.{clockOf}
 use Rattle.monitor.specs.Start.{startOf}
 use Rattle.monitor.specs.Step.{frameOf, Reply}
 use Rattle.monitor.specs.Step as step
@@ -56,7 +57,7 @@ answer-short time (step.refusal fault) = refused-short fault
 
 frame-short : (s : Running) (said : LineReply) → length (frameReply s said) ≤ longestReply
 frame-short s atEnd = omega arith
-frame-short s (goodLine given) = answer-short (frameJudged s (frameOf given) .left .time) (frameJudged s (frameOf given) .reply)
+frame-short s (goodLine given) = answer-short (clockOf (frameJudged s (frameOf given) .left)) (frameJudged s (frameOf given) .reply)
 frame-short s (badLine fault) = refused-short fault
 
 turn-short-in : (part : Part) (d : Desk) (line : List ℕ) → length (turnIn part line d .text) ≤ longestReply

@@ -16,6 +16,7 @@ use Rattle.lines.specs.Digits.{byteAt, overwritten}
 use Rattle.lines.specs.Line.{lineFeed}
 use Rattle.lines.specs.Rule.{readRule}
 use Rattle.lines.specs.Read as read
+use Rattle.monitor.specs.Record.{clockOf}
 use Rattle.monitor.specs.Start.{startOf, StartGives}
 use Rattle.monitor.specs.Step.{said, saidStep, frame}
 use Rattle.monitor.specs.declared.answer.StartAnswer.the-variants as StartAnswer
@@ -86,7 +87,7 @@ module _ (stage : Stage) (table store out : List ℕ) (place next : ℕ) (after 
   -- What a frame's answer brings.
   pub frame-told : (counter mask : ℕ) (j : Judged) (store′ line : List ℕ)
       → saidStep j store′ ≡ frameJudged (runningAt (desk stage table store)) (frame counter mask)
-      → replyOf (j .record .time) (said (j .answer)) ≡ line
+      → replyOf (clockOf (j .record)) (said (j .answer)) ≡ line
       → Wrote out place line next after
       → Turned (frameTurn (read.goodLine (counter ∷ mask ∷ []))) stage table store out place
       (record { stage = staged Frames (stage .rows) (j .record); place = next }) table store′ after

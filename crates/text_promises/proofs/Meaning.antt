@@ -11,6 +11,7 @@ use Rattle.lines.specs.Digits.{byteAt}
 use Rattle.lines.specs.Line.{lineFeed}
 use Rattle.lines.specs.Read.{LineReply, atEnd, goodLine, badLine}
 use Rattle.lines.specs.Frame.{readFrame}
+use Rattle.monitor.specs.Record.{clockOf}
 use Rattle.monitor.specs.Step.{Call, timeOf, frameOf}
 use Rattle.promises.specs.Stream.{Starts, after, state, clock, outcome}
 use Rattle.promises.proofs.StreamLaws.{one-more}
@@ -35,17 +36,17 @@ leaves-more table calls (goodLine given) = rw (one-more table emptyStore calls (
 leaves-more table calls (badLine fault) = refl
 
 frame-meant : (table : List ℕ) (calls : List Call) (c : Call) → Starts table emptyStore
-    → FrameMeant table calls c (replyOf (outcome table emptyStore calls c .left .time) (outcome table emptyStore calls c .reply))
+    → FrameMeant table calls c (replyOf (clockOf (outcome table emptyStore calls c .left)) (outcome table emptyStore calls c .reply))
 frame-meant table calls c starts =
     let answered = truths-are-meaning table emptyStore starts calls c .answered in
     record {
       kept = λ keeps.
           let told = answered .judged keeps in
-          let time : outcome table emptyStore calls c .left .time ≡ timeOf (clock calls) c =
+          let time : clockOf (outcome table emptyStore calls c .left) ≡ timeOf (clock calls) c =
           call-kept (stream-kept table emptyStore starts calls) c keeps .time
           in
           (told .0, rw (told .1, time), verdict-is-meaning table emptyStore starts calls c (told .0) (told .1) .holding);
-      late = λ over. ap (replyOf (outcome table emptyStore calls c .left .time)) (answered .late over);
+      late = λ over. ap (replyOf (clockOf (outcome table emptyStore calls c .left))) (answered .late over);
     }
 
 line-meant : (table : List ℕ) (calls : List Call) (said : LineReply)

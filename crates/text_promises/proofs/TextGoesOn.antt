@@ -11,6 +11,7 @@ use Rattle.rules.specs.Stretches.{needOf}
 use Rattle.lines.specs.Read.{LineReply, atEnd, goodLine, badLine}
 use Rattle.lines.specs.Frame.{readFrame}
 use Rattle.lines.specs.Lines.{linesOf}
+use Rattle.monitor.specs.Record.{clockOf}
 use Rattle.monitor.specs.Step as step
 use Rattle.monitor.specs.Step.{frameOf, Reply}
 use Rattle.promises.specs.Stream.{State, call, next, after, Starts, started}
@@ -53,10 +54,10 @@ module _ (table : List ℕ) (s : State) (line : List ℕ) where
   abbrev r : Reading
   r = readAlone table s line
 
-  line-shown : (said : LineReply) → frameReply (running table s) said ≡ shown (answerTo s r said) (leftBy s r said .found .time)
+  line-shown : (said : LineReply) → frameReply (running table s) said ≡ shown (answerTo s r said) (clockOf (leftBy s r said .found))
   line-shown atEnd = refl
   line-shown (goodLine given) =
-      rw (take-length (s .store)) (reply-shown (next table s (frameOf given) .found .time) (call table s (frameOf given) .reply))
+      rw (take-length (s .store)) (reply-shown (clockOf (next table s (frameOf given) .found)) (call table s (frameOf given) .reply))
   line-shown (badLine fault) = refl
 
   line-left : (said : LineReply) → frameLeaves (running table s) said ≡ running table (leftBy s r said)
