@@ -20,7 +20,8 @@ pub fn start(table: &[u32], store: &mut [u64]) -> Started
             record: nothing_seen(0),
         },
         Checked::Passed { rows, need } => {
-            clear_words(&mut store[0..need as usize]);
+            let words = need as usize;
+            clear_words(&mut store[0..words]);
             Started {
                 answer: StartAnswer::Good { need },
                 record: nothing_seen(rows),
