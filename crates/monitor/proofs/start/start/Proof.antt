@@ -38,7 +38,7 @@ part-clear-words-start : tie.Need-part-clear-words-start
 part-clear-words-start c = search needs
 
 part-clear-words-end : tie.Need-part-clear-words-end
-part-clear-words-end c = need-fits c
+part-clear-words-end c = omega (arith, need-fits c)
 
 clear-words-requires : tie.Need-clear-words-requires
 clear-words-requires c κs = search needs
