@@ -1,6 +1,6 @@
 #!/usr/bin/env bash
-# The gate refuses, with a message that says why: a machine without the kit, a crate that crates.txt does not list, a file out of layout.
-# It warns about another kit, and refuses where a test fails. Each case ends before `rt ci`.
+# The gate refuses, with a message that says why: a machine without the kit, a crate that crates.txt does not list, a file out of layout, a crate that is
+# not proved, a test that fails. It warns about another kit. Where all is well its last line is that of `rt ci`, after the tests.
 set -u
 cd "$(dirname "$0")/.." || exit 2
 work=$(mktemp -d) || exit 2
@@ -51,5 +51,25 @@ printf 'exit 1\n' >"$work/repo/tests/fails.sh"
 expect "warning: this is not the kit that the repository was proved with" bash "$work/repo/.ci/run"
 expect "tests/fails.sh failed" bash "$work/repo/.ci/run"
 
-[ "$failures" -eq 0 ] && printf 'gate.sh: 5 refusals as they should be\n'
+# No test is run on what is not proved.
+fresh
+printf 'pub fn unproved() -> bool\n    ensures { λ r. ⌜ r ⌝ }\n{\n    false\n}\n' >"$work/repo/crates/small/src/lib.rt"
+mkdir "$work/repo/tests"
+printf 'touch ran\n' >"$work/repo/tests/runs.sh"
+expect "0 passed, 1 failed" bash "$work/repo/.ci/run"
+[ ! -e "$work/repo/ran" ] || {
+    printf 'gate.sh: a test ran on a crate that is not proved\n' >&2
+    failures=$((failures + 1))
+}
+
+fresh
+mkdir "$work/repo/tests"
+printf 'touch ran\n' >"$work/repo/tests/runs.sh"
+last=$(bash "$work/repo/.ci/run" 2>/dev/null | tail -n 1)
+[ "$last" = '1 passed, 0 failed' ] && [ -e "$work/repo/ran" ] || {
+    printf 'gate.sh: a good gate should run its tests and end with "1 passed, 0 failed", but ends with: %s\n' "$last" >&2
+    failures=$((failures + 1))
+}
+
+[ "$failures" -eq 0 ] && printf 'gate.sh: 6 refusals as they should be, and a gate that passes\n'
 exit "$failures"

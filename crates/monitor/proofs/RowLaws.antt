@@ -1,7 +1,7 @@
 -- One row of an event: what its spans and its truth become, and that they have room. A row with a stretch, then one without.
 use mathlib.Core.Bool.{Bool, true, false, not}
 use mathlib.Core.List.{List, []}
-use mathlib.Core.Path.{_≡_, refl, sym, ap, _∙_}
+use mathlib.Core.Path.{_≡_, refl, sym, ap, subst, _∙_}
 use Prim.Native.Nat.{ℕ, _+_, _-_, _^_, _≤_, _<_}
 use native.Mathlib.Nat.{add-zero}
 use native.Mathlib.Omega.{arith}
@@ -32,6 +32,16 @@ no-spans time truths S n (stretch columns) h = absurd (no-truth (sym h))
 no-words : (n : Numbers) (rule : Rule) → hasStretch rule ≡ false → spansSaid rule n ≡ 0
 no-words n (plain says) h = refl
 no-words n (stretch columns) h = absurd (no-truth (sym h))
+
+-- An update by the span that is joined in.
+module _ {from end : ℕ} {store : List ℕ} {held : Held} {keep feed : Bool} {time : ℕ} {span other : Span} (same : span ≡ other) where
+  pub ready-as : UpdateReady from end store held keep feed time span → UpdateReady from end store held keep feed time other
+  ready-as ready = subst (UpdateReady from end store held keep feed time) same ready
+
+  pub updated-as : {updated : Updated} {after : List ℕ} → UpdatedIn from end store held keep feed time other updated after
+      → UpdatedIn from end store held keep feed time span updated after
+  updated-as {updated} {after} done =
+      subst (λ (s : Span). UpdatedIn from end store held keep feed time s updated after) (sym same) done
 
 -- What was read of a row that owns a stretch: its columns, and what they pick of the truths.
 pub record StretchRead (truths : List ℕ) (n : Numbers) (columns : Stretch) (keep feed : Bool) : Type 0 where

@@ -1,4 +1,5 @@
 -- `monitor::frame_time::time_after` meets its contract: the wrapped difference is the remainder. Assumes nothing.
+use native.Mathlib.Omega.{arith}
 use borrow.Author.Needs.{needs}
 use Rattle.meaning.specs.FrameTime.{frameTime}
 use Rattle.monitor.proofs.frame_time.time_after.Statement.{statement}
@@ -18,7 +19,7 @@ add-result c = search needs
 
 returns : tie.Need-returns
 unfolding frameTime
-returns c = search needs
+returns c = omega (arith, c .wide .ensures, c .before .wrapping-sub-u16 .ensures)
 
 pub time-after-spec : {M : Type 1} → statement M
 time-after-spec =
