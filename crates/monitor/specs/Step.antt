@@ -30,15 +30,15 @@ pub record Setup : Type 0 where
 abbrev pub setupOf : List ℕ → Setup
 setupOf table = record { table = table }
 
--- An event has its time; a frame has a counter, and the time that this shows since the last event.
+-- An event has its time; a frame has a counter, and the time that this shows since the clock.
 pub data Call : Type 0 where
   event : (time mask : ℕ) → Call
   frame : (counter mask : ℕ) → Call
 
--- Its time, where the last event was at `last` (0 before any).
+-- Its time by the clock, which is the last event's time (0 before any).
 abbrev pub timeOf : ℕ → Call → ℕ
-timeOf last (event time mask) = time
-timeOf last (frame counter mask) = frameTime last counter
+timeOf clock (event time mask) = time
+timeOf clock (frame counter mask) = frameTime clock counter
 
 abbrev pub maskOf : Call → ℕ
 maskOf (event time mask) = mask
@@ -53,7 +53,7 @@ abbrev pub unless : Bool → Refusal → Option Refused
 unless true refusal = none
 unless false refusal = some (refused refusal)
 
--- "an event uses 1 to 4, then 7, 6, 5": "record not sound", "time over 281,474,976,710,655", "time below the last event's".
+-- "an event uses 1 to 4, then 7, 6, 5": "record not sound", "time over 281,474,976,710,655", "time below the last event's", which is the clock.
 unfoldable pub refusalOf : Setup → List ℕ → Record → Call → Option Refused
 refusalOf setup store found call =
     refusalIn (readyOf (setup .table) (length store))

@@ -54,16 +54,16 @@ pub(crate) fn sound_record(
     false
 }
 
-fn sound_time(seen: u8, time: u64) -> bool
-    ensures { λ r. ⌜ r ≡ soundTime? seen time ⌝ }
+fn sound_time(seen: u8, clock: u64) -> bool
+    ensures { λ r. ⌜ r ≡ soundTime? seen clock ⌝ }
 {
     if 1 < seen {
         return false;
     }
     if seen == 1 {
-        return time <= TIME_LIMIT;
+        return clock <= TIME_LIMIT;
     }
-    time == 0
+    clock == 0
 }
 
 // Each row of the table, their stretches one after the other.

@@ -12,7 +12,7 @@ returns-2 : tie.Need-returns-2
 returns-2 c = rw (c .if2 .taken)
 
 returns-3 : tie.Need-returns-3
-returns-3 c = rw (le-leb _ _ (c .before .if1 .left), ne-eqb _ _ (c .if2 .left)) (zero-told (c .before .before .args .time) timeLimit)
+returns-3 c = rw (le-leb _ _ (c .before .if1 .left), ne-eqb _ _ (c .if2 .left)) (zero-told (c .before .before .args .clock) timeLimit)
 
 pub sound-time-spec : {M : Type 1} → statement M
 sound-time-spec = tie.close (tie.spec returns returns-2 returns-3)
