@@ -1,4 +1,4 @@
--- The one table of kinds (document 01, "The rule table"). A new kind is a line here and in src/kinds.rt, and a case of `Plain` where it is no stretch.
+-- The one table of kinds (document 01, "The rule table"; 7 and 8 by document 02, E1). A new kind is a line here and in src/kinds.rt, and a case of `Plain` where it is no stretch.
 use mathlib.Core.Bool.{Bool, true, false, cond}
 use mathlib.Core.List.{List, [], _∷_}
 use Prim.Native.Nat.{ℕ}
@@ -23,6 +23,14 @@ pub data Rule : Type 0 where
 -- "x since y": kept while x is true, fed where y is true, true inside a span.
 abbrev pub xSinceY : Stretch
 xSinceY = record { keep = WhileX; feed = FromY; when = true; inside = true }
+
+-- "once x", true since x: kept whatever comes, fed where x is true, true inside a span.
+abbrev pub onceX : Stretch
+onceX = record { keep = Unasked; feed = FromX; when = true; inside = true }
+
+-- "always x", not once not x: kept whatever comes, fed where x is false, true outside every span.
+abbrev pub alwaysX : Stretch
+alwaysX = record { keep = Unasked; feed = FromX; when = false; inside = false }
 
 -- A line of the table: what x, y, a and b are used as, and what a row of the kind says.
 pub record Kind : Type 0 where
@@ -51,9 +59,13 @@ kinds =
     ∷ kind Lower Unused Limit Limit (plain Plain.Previous)
     -- 6: "x since y"
     ∷ kind Lower Lower Limit Limit (stretch xSinceY)
+    -- 7: "once x in [a,b]"
+    ∷ kind Lower Unused Limit Limit (stretch onceX)
+    -- 8: "always x in [a,b]"
+    ∷ kind Lower Unused Limit Limit (stretch alwaysX)
     ∷ []
 
--- "kind over 6" is a kind that has no line.
+-- "kinds over 8" are those that have no line.
 abbrev pub known : ℕ → Bool
 known k = ltb k (length kinds)
 
@@ -71,7 +83,7 @@ ownsStretch k = hasStretch (kindAt k .rule)
 
 -- The columns as the code holds them; a kind without a stretch has some that nothing reads.
 abbrev pub columnsOf : Rule → Stretch
-columnsOf (plain says) = record { keep = Unasked; feed = FromX; when = true; inside = true }
+columnsOf (plain says) = onceX
 columnsOf (stretch columns) = columns
 
 -- What a row without a stretch says; of one with a stretch nothing reads it.

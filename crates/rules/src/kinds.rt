@@ -1,4 +1,4 @@
-// The one table of kinds (document 01), private to the crate: specs/Kinds as code. A new kind is a line in both, and a case of `Plain` where it has
+// The one table of kinds (document 01; 7 and 8 by document 02, E1), private to the crate: specs/Kinds as code. A new kind is a line in both, and a case of `Plain` where it has
 // no stretch.
 
 ghost use mathlib.Core.Path.{_≡_};
@@ -48,13 +48,24 @@ const SINCE: Stretch = Stretch {
     inside: true,
 };
 
-// Of a kind without a stretch: no column is read.
-const NONE: Stretch = Stretch {
+// Spans kept whatever comes, fed where x is true, the row true inside one.
+const ONCE: Stretch = Stretch {
     keep: Keep::Unasked,
     feed: Feed::FromX,
     when: true,
     inside: true,
 };
+
+// Spans kept whatever comes, fed where x is false, the row true outside every one.
+const ALWAYS: Stretch = Stretch {
+    keep: Keep::Unasked,
+    feed: Feed::FromX,
+    when: false,
+    inside: false,
+};
+
+// Of a kind without a stretch: no column is read.
+const NONE: Stretch = ONCE;
 
 const TRUTH: Plain = Plain::Truth;
 
@@ -68,7 +79,7 @@ const EITHER: Plain = Plain::Either;
 
 const PREVIOUS: Plain = Plain::Previous;
 
-const KINDS: [KindLine; 7] = [
+const KINDS: [KindLine; 9] = [
     // 0: true.
     KindLine(UNUSED, UNUSED, UNUSED, UNUSED, false, NONE, TRUTH),
     // 1: bit x.
@@ -83,6 +94,10 @@ const KINDS: [KindLine; 7] = [
     KindLine(LOWER, UNUSED, LIMIT, LIMIT, false, NONE, PREVIOUS),
     // 6: x since y.
     KindLine(LOWER, LOWER, LIMIT, LIMIT, true, SINCE, TRUTH),
+    // 7: once x.
+    KindLine(LOWER, UNUSED, LIMIT, LIMIT, true, ONCE, TRUTH),
+    // 8: always x.
+    KindLine(LOWER, UNUSED, LIMIT, LIMIT, true, ALWAYS, TRUTH),
 ];
 
 // Whether there is such a kind.
