@@ -7,14 +7,14 @@ use libc::STDOUT_FILENO;
 use monitor::record::Record;
 use monitor::start::start;
 
-// p is bit 0 and q is bit 1 of the mask. The same rule with a kind 7 in row 2, which is refused.
+// p is bit 0 and q is bit 1 of the mask. The same rule with a kind 9 in row 2, which is refused.
 const P: u32 = 1;
 
 const Q: u32 = 2;
 
 const SINCE: [u32; 15] = [1, 0, 0, 0, 0, 1, 1, 0, 0, 0, 6, 0, 1, 2, 3];
 
-const KIND_7: [u32; 15] = [1, 0, 0, 0, 0, 1, 1, 0, 0, 0, 7, 0, 1, 2, 3];
+const KIND_9: [u32; 15] = [1, 0, 0, 0, 0, 1, 1, 0, 0, 0, 9, 0, 1, 2, 3];
 
 // The four words of the need, and one past it.
 const WORDS: usize = 5;
@@ -40,7 +40,7 @@ fn main() {
         &[0, Q, P, P, P, P + Q],
     );
     say(b"-- on from there: by another table, with a time that is not sound, and as it was left\n");
-    events(&KIND_7, store, kept, &[5, 6], &[P, P]);
+    events(&KIND_9, store, kept, &[5, 6], &[P, P]);
     events(&SINCE, store, at_time(kept, 9), &[5, 6], &[P, P]);
     let last = events(&SINCE, store, kept, &[5, LIMIT - 10], &[P, Q]);
     say(b"-- frames from there, one over the limit of time\n");

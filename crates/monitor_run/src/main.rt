@@ -35,6 +35,15 @@ const ONCE_ONCE: [[u32; ROW_NUMBERS]; 6] = [
     [6, 3, 4, 1, 2],
 ];
 
+// The same by rows of kind 7.
+const ONCE_ROWS: [[u32; ROW_NUMBERS]; 5] = [
+    [1, 0, 0, 0, 0],
+    [1, 1, 0, 0, 0],
+    [4, 0, 1, 0, 0],
+    [7, 2, 0, 1, 2],
+    [7, 3, 0, 1, 2],
+];
+
 // Not once [1,2] not p.
 const ALWAYS: [[u32; ROW_NUMBERS]; 5] = [
     [1, 0, 0, 0, 0],
@@ -43,6 +52,9 @@ const ALWAYS: [[u32; ROW_NUMBERS]; 5] = [
     [6, 2, 1, 1, 2],
     [2, 3, 0, 0, 0],
 ];
+
+// The same by a row of kind 8.
+const ALWAYS_ROW: [u32; 10] = [1, 0, 0, 0, 0, 8, 0, 0, 1, 2];
 
 // p since [2,3] q; the same without its last number; p since [4,4] q, which needs six words.
 const SINCE: [u32; 15] = [1, 0, 0, 0, 0, 1, 1, 0, 0, 0, 6, 0, 1, 2, 3];
@@ -70,10 +82,16 @@ fn tables() {
     let mut table = [0; 30];
     put_rows(&ONCE_ONCE, &mut table);
     stream(&table, &[1, 2, 3, 4, 5, 6], &[P, 0, 0, 0, Q, 0]);
+    say(b"-- Table 3, by rows of kind 7\n");
+    let mut table = [0; 25];
+    put_rows(&ONCE_ROWS, &mut table);
+    stream(&table, &[1, 2, 3, 4, 5, 6], &[P, 0, 0, 0, Q, 0]);
     say(b"-- Table 4: always [1,2] p\n");
     let mut table = [0; 25];
     put_rows(&ALWAYS, &mut table);
     stream(&table, &[1, 2, 3, 4, 5, 6], &[0, 0, P, P, P, 0]);
+    say(b"-- Table 4, by a row of kind 8\n");
+    stream(&ALWAYS_ROW, &[1, 2, 3, 4, 5, 6], &[0, 0, P, P, P, 0]);
     say(b"-- Table 5: p since [2,3] q\n");
     stream(&SINCE, &[1, 2, 3, 4, 5, 6], &[0, Q, P, P, P + Q, P]);
 }

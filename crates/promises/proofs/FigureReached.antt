@@ -1,33 +1,37 @@
--- Demand 3, "No smaller figure serves": once p with the limits a and b, on a store of exactly the need, and a pulse of p whenever the former's reach
--- has just ended and a gap follows, as in `filling` of the meaning.
+-- Demand 3, "No smaller figure serves": once p with the limits a and b, by a row of each kind, on a store of exactly the need, and a pulse of p whenever
+-- the former's reach has just ended and a gap follows, as in `filling` of the meaning.
+use mathlib.Core.Bool.{true}
 use mathlib.Core.List.{List, [], _∷_, _++_}
-use mathlib.Core.Logic.{inl}
+use mathlib.Core.Logic.{_↔_, inl, inr, ⊎-elim}
 use mathlib.Core.Path.{_≡_, refl, ap, _∙_}
-use Prim.Native.Nat.{ℕ, zero, suc, _+_, _-_, _/_, _≤_}
+use Prim.Native.Nat.{ℕ, zero, suc, _+_, _-_, _/_, _≤_, _<_}
 use native.Mathlib.Nat.{div-mul-le-self}
 use native.Mathlib.Omega.{arith}
-use lib.ListN.{length, getD, length-append}
+use lib.ListN.{length, getD, drop, length-append}
 use borrow.Author.Tests.{le-leb}
 use Rattle.meaning.specs.Interval.{End, upTo, noEnd, endOf}
 use Rattle.meaning.specs.History.{History}
-use Rattle.meaning.specs.Formula.{truth, bit, Holds}
+use Rattle.meaning.specs.Formula.{truth, bit, negation, Holds, Reached}
 use Rattle.meaning.specs.Spans.{Span}
 use Rattle.meaning.specs.Runs.{Runs}
 use Rattle.meaning.specs.Figure.{figure}
+use Rattle.meaning.proofs.Tells.{tells-decided}
+use Rattle.meaning.proofs.FormulaLaws.{holds-told}
 use Rattle.meaning.proofs.RunsLaws.{runs-only}
 use Rattle.meaning.proofs.FigureLaws.{pulseTime, pulses, pulse-time, pulses-last, filling, figure-is-filled}
-use Rattle.rules.specs.Kinds.{stretch, xSinceY, kindAt}
+use Rattle.rules.specs.Kinds.{stretch, xSinceY, onceX, alwaysX, kindAt}
 use Rattle.rules.specs.Rows.{rowsOf, numbersAt, ruleOf}
 use Rattle.rules.specs.Stretches.{needOf}
 use Rattle.rules.specs.RowFormula.{below, formulaOf}
-use Rattle.rules.specs.Table.{lengthPasses, rowPasses, faultOf, firstFault, passed, checkOf}
+use Rattle.rules.specs.Table.{lengthPasses, rowPasses, limitsPass, faultOf, firstFault, passed, checkOf}
+use Rattle.rules.specs.declared.stretch.Stretch.{Stretch}
 use Rattle.rules.proofs.PassedLaws.{range-cases, range-order}
 use Rattle.times.specs.Times.{timeLimit}
 use Rattle.monitor.specs.Ready.{readyOf}
 use Rattle.monitor.specs.Start.{startOf}
 use Rattle.monitor.specs.Step.{Call, event}
 use Rattle.promises.specs.Stream.{Starts, kept, state, history, clock}
-use Rattle.promises.specs.Conditions.{LimitsRight}
+use Rattle.promises.specs.Conditions.{LimitsRight, SinceKind}
 use Rattle.promises.specs.Spans.{RowRuns}
 use Rattle.promises.specs.Room.{pulsesAt, AllKept, Filled, RunsFill, FigureIsReached}
 use Rattle.promises.proofs.StreamLaws.{kept-append}
@@ -36,31 +40,110 @@ use Rattle.promises.proofs.TableTold.{limits-told}
 use Rattle.promises.proofs.StretchTold.{in-range-of}
 use Rattle.promises.proofs.Spans.{spans-are-the-runs}
 
--- The table "true since bit 0", which starts on any store of exactly its need.
-abbrev onceTable : ℕ → ℕ → List ℕ
-onceTable a b = 1 ∷ 0 ∷ 0 ∷ 0 ∷ 0 ∷ 0 ∷ 0 ∷ 0 ∷ 0 ∷ 0 ∷ 6 ∷ 1 ∷ 0 ∷ a ∷ b ∷ []
+-- A table with a row of the kind and the limits, whose runs are those of "once p".
+record Witness (kind a b : ℕ) : Type 0 where
+  pub table : List ℕ
+  pub row : ℕ
+  pub inside : row < rowsOf table
+  pub of-kind : numbersAt table row .kind ≡ kind
+  pub from : numbersAt table row .a ≡ a
+  pub to : numbersAt table row .b ≡ b
+  pub passes : LimitsRight a b → checkOf table ≡ passed (rowsOf table) (needOf table)
+  pub columns : Stretch
+  pub rule : ruleOf (numbersAt table row) ≡ stretch columns
+  pub once-p : (h : History) (time : ℕ) (S : List Span)
+      → RowRuns table row columns h time S
+      → Runs (Holds truth) (Holds (bit 0)) a (endOf b) h time S
 
-once-passes : (a b : ℕ) → LimitsRight a b → checkOf (onceTable a b) ≡ passed (rowsOf (onceTable a b)) (needOf (onceTable a b))
-unfolding checkOf lengthPasses firstFault faultOf rowPasses numbersAt kindAt
-once-passes a b limits =
-    rw (told-true (limits-told 0 0) (record { low = omega arith; high = inl (omega arith) }), told-true (limits-told a b) limits)
+-- Limits that are not used are right.
+no-limits : limitsPass 0 0 ≡ true
+no-limits = told-true (limits-told 0 0) (record { low = omega arith; high = inl (omega arith) })
 
-once-starts : (a b : ℕ) → LimitsRight a b → (store : List ℕ) → length store ≡ needOf (onceTable a b) → Starts (onceTable a b) store
-unfolding startOf readyOf
-once-starts a b limits store exactly =
-    let need = needOf (onceTable a b) in
-    rw (once-passes a b limits, exactly, le-leb need need (omega arith))
+-- Kind 6: rows "p", "true", "true since p".
+true-since-p : (a b : ℕ) → Witness 6 a b
+unfolding numbersAt kindAt formulaOf below checkOf lengthPasses firstFault faultOf rowPasses
+true-since-p a b =
+    record {
+      table = 1 ∷ 0 ∷ 0 ∷ 0 ∷ 0 ∷ 0 ∷ 0 ∷ 0 ∷ 0 ∷ 0 ∷ 6 ∷ 1 ∷ 0 ∷ a ∷ b ∷ [];
+      row = 2;
+      inside = omega arith;
+      of-kind = refl;
+      from = refl;
+      to = refl;
+      passes = λ limits. rw (no-limits, told-true (limits-told a b) limits);
+      columns = xSinceY;
+      rule = refl;
+      once-p = λ h time S runs. runs;
+    }
 
-once-rule : (a b : ℕ) → ruleOf (numbersAt (onceTable a b) 2) ≡ stretch xSinceY
-unfolding numbersAt kindAt
-once-rule a b = refl
+-- Kind 7: rows "p", "once p".
+once-p : (a b : ℕ) → Witness 7 a b
+unfolding numbersAt kindAt formulaOf below checkOf lengthPasses firstFault faultOf rowPasses
+once-p a b =
+    record {
+      table = 1 ∷ 0 ∷ 0 ∷ 0 ∷ 0 ∷ 7 ∷ 0 ∷ 0 ∷ a ∷ b ∷ [];
+      row = 1;
+      inside = omega arith;
+      of-kind = refl;
+      from = refl;
+      to = refl;
+      passes = λ limits. rw (no-limits, told-true (limits-told a b) limits);
+      columns = onceX;
+      rule = refl;
+      once-p = λ h time S runs. runs;
+    }
 
--- Its runs are those of "once p".
-once-runs : (a b : ℕ) (h : History) (time : ℕ) (S : List Span)
-    → RowRuns (onceTable a b) 2 xSinceY h time S
-    → Runs (Holds truth) (Holds (bit 0)) a (endOf b) h time S
-unfolding numbersAt formulaOf below kindAt
-once-runs a b h time S runs = runs
+-- Runs fed at the same events are the same.
+reached-same : (x y z : History → Type 0) (a : ℕ) (b : End) (h : History) (u : ℕ)
+    → ((h : History) → y h → z h)
+    → Reached x y a b h u
+    → Reached x z a b h u
+reached-same x y z a b h u feeds reached =
+    record {
+      j = reached .j;
+      known = reached .known;
+      fed = feeds (drop (reached .j) h) (reached .fed);
+      apart = reached .apart;
+      kept = reached .kept;
+    }
+
+runs-same : (x y z : History → Type 0) (a : ℕ) (b : End) (h : History) (t : ℕ) (S : List Span)
+    → ((h : History) → y h ↔ z h)
+    → Runs x y a b h t S
+    → Runs x z a b h t S
+runs-same x y z a b h t S same runs =
+    record {
+      rising = runs .rising;
+      exact = λ u. (
+        λ inside. (runs .exact u .0 inside .0, reached-same x y z a b h u (λ h. same h .0) (runs .exact u .0 inside .1)),
+        λ reached. runs .exact u .1 (reached .0, reached-same x z y a b h u (λ h. same h .1) (reached .1)),
+      );
+    }
+
+-- What is not false is true, for a bit is set or not.
+not-not-p : (h : History) → Holds (negation (negation (bit 0))) h ↔ Holds (bit 0) h
+unfolding Holds
+not-not-p h = (
+  λ not-not. ⊎-elim (λ set. set) (λ unset. absurd (not-not unset)) (tells-decided (holds-told (bit 0) h)),
+  λ set unset. unset set,
+)
+
+-- Kind 8: rows "p", "not p", "always not p"; its x is false at the events with p, which feed it.
+always-not-p : (a b : ℕ) → Witness 8 a b
+unfolding numbersAt kindAt formulaOf below checkOf lengthPasses firstFault faultOf rowPasses
+always-not-p a b =
+    record {
+      table = 1 ∷ 0 ∷ 0 ∷ 0 ∷ 0 ∷ 2 ∷ 0 ∷ 0 ∷ 0 ∷ 0 ∷ 8 ∷ 1 ∷ 0 ∷ a ∷ b ∷ [];
+      row = 2;
+      inside = omega arith;
+      of-kind = refl;
+      from = refl;
+      to = refl;
+      passes = λ limits. rw (no-limits, told-true (limits-told a b) limits);
+      columns = alwaysX;
+      rule = refl;
+      once-p = λ h time S. runs-same _ _ _ a (endOf b) h time S not-not-p;
+    }
 
 -- The times of the pulses, the oldest first.
 pulseTimes : ℕ → ℕ → List ℕ
@@ -126,37 +209,48 @@ runs-fill a b limits =
       many = many;
     }
 
-once-full : (a b : ℕ)
-    → LimitsRight a b
-    → (store : List ℕ)
-    → length store ≡ needOf (onceTable a b)
-    → getD (state (onceTable a b) store (fillingCalls a b) .found .counts) 2 0 ≡ figure a (endOf b)
-unfolding runs-fill
-once-full a b limits store exactly =
-    let calls = fillingCalls a b in
-    let held = spans-are-the-runs (onceTable a b) store (once-starts a b limits store exactly) calls 2 xSinceY (omega arith) (once-rule a b) in
-    let full = runs-fill a b limits in
-    held .laid .counted
-    ∙ ap length
-    (runs-only (Holds truth) (Holds (bit 0)) a (endOf b) (history calls) (clock calls) (held .spans) (full .spans)
-    (once-runs a b (history calls) (clock calls) (held .spans) (held .runs)) (full .runs))
-    ∙ full .many
+module _ (kind a b : ℕ) (limits : LimitsRight a b) (w : Witness kind a b) where
+  starts : (store : List ℕ) → length store ≡ needOf (w .table) → Starts (w .table) store
+  unfolding startOf readyOf
+  starts store exactly =
+      let need = needOf (w .table) in
+      rw (w .passes limits, exactly, le-leb need need (omega arith))
 
-once-filled : (a b : ℕ) → LimitsRight a b → Filled a b
-unfolding numbersAt
-once-filled a b limits =
-    record {
-      table = onceTable a b;
-      row = 2;
-      inside = omega arith;
-      since = refl;
-      from = refl;
-      to = refl;
-      times = fillingTimes a (endOf b);
-      kept = all-kept a b limits;
-      starts = once-starts a b limits;
-      full = once-full a b limits;
-    }
+  full : (store : List ℕ)
+      → length store ≡ needOf (w .table)
+      → getD (state (w .table) store (fillingCalls a b) .found .counts) (w .row) 0 ≡ figure a (endOf b)
+  unfolding runs-fill
+  full store exactly =
+      let calls = fillingCalls a b in
+      let held = spans-are-the-runs (w .table) store (starts store exactly) calls (w .row) (w .columns) (w .inside) (w .rule) in
+      let all = runs-fill a b limits in
+      held .laid .counted
+      ∙ ap length
+      (runs-only (Holds truth) (Holds (bit 0)) a (endOf b) (history calls) (clock calls) (held .spans) (all .spans)
+      (w .once-p (history calls) (clock calls) (held .spans) (held .runs)) (all .runs))
+      ∙ all .many
+
+  filled : Filled kind a b
+  filled =
+      record {
+        table = w .table;
+        row = w .row;
+        inside = w .inside;
+        of-kind = w .of-kind;
+        from = w .from;
+        to = w .to;
+        times = fillingTimes a (endOf b);
+        kept = all-kept a b limits;
+        starts = starts;
+        full = full;
+      }
+
+-- A witness of each kind.
+witness : (kind a b : ℕ) → SinceKind kind → Witness kind a b
+witness kind a b (inl six) = rw six (true-since-p a b)
+witness kind a b (inr (inl seven)) = rw seven (once-p a b)
+witness kind a b (inr (inr eight)) = rw eight (always-not-p a b)
 
 pub figure-is-reached : FigureIsReached
-figure-is-reached a b limits = (once-filled a b limits, runs-fill a b limits)
+figure-is-reached =
+    record { rows = λ kind a b since limits. filled kind a b limits (witness kind a b since); runs = runs-fill }

@@ -5,6 +5,7 @@ pub mod Deciding
 pub mod StreamLaws
 pub mod Invariant
 pub mod TableTold
+pub mod Formulas
 pub mod TableRefusals
 pub mod StretchTold
 pub mod Need

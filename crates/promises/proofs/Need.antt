@@ -1,22 +1,21 @@
--- The need is the sum over the since rows: row by row, by what the table of kinds says of kind 6 and of the others.
+-- The need is the sum over the since rows: row by row, by what the table of kinds says of each kind.
 use mathlib.Core.List.{List}
 use mathlib.Core.Logic.{⊎-elim}
 use mathlib.Core.Path.{_≡_}
 use Prim.Native.Nat.{ℕ, zero, suc}
 use native.Mathlib.Nat.{add-zero}
-use Rattle.rules.specs.Kinds.{stretch, xSinceY, kindAt}
-use Rattle.rules.specs.Rows.{rowsOf, numbersAt, ruleOf}
+use Rattle.rules.specs.Kinds.{kindAt}
+use Rattle.rules.specs.Rows.{rowsOf, numbersAt}
 use Rattle.rules.specs.Stretches.{offset}
 use Rattle.rules.specs.declared.numbers.Numbers.{Numbers}
 use Rattle.monitor.proofs.ReadyLaws.{start-need}
-use Rattle.promises.specs.Conditions.{IsSince}
-use Rattle.promises.specs.Need.{Needs, none, since, other, NeedFollows}
+use Rattle.promises.specs.Need.{OwnsStretch, Needs, none, since, other, NeedFollows}
 use Rattle.promises.proofs.StretchTold.{since-or-other, other-rule, since-spans, other-spans}
 
--- What the table of kinds says of kind 6.
-since-rule : (n : Numbers) → IsSince n → ruleOf n ≡ stretch xSinceY
+-- What the table of kinds says.
+owns-stretch : (n : Numbers) → OwnsStretch n
 unfolding kindAt
-since-rule n is-since = rw is-since
+owns-stretch n = record { since = λ six. rw six; once = λ seven. rw seven; always = λ eight. rw eight; other = other-rule n }
 
 needs : (table : List ℕ) (n : ℕ) → Needs table n (offset table n)
 unfolding offset
@@ -30,7 +29,7 @@ needs table (suc n) =
 pub need-follows : NeedFollows
 need-follows =
     record {
-      row = λ n. record { since = since-rule n; other = other-rule n };
+      row = owns-stretch;
       table = λ table. needs table (rowsOf table);
       start = start-need;
     }

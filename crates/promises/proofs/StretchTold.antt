@@ -1,9 +1,9 @@
 -- The test of a row's stretch tells document 01's conditions on it, in both directions, where table and store passed before it. A row that is no
 -- since row has an empty stretch, which is right.
-use mathlib.Core.Bool.{Bool, false, Bool·beq}
+use mathlib.Core.Bool.{Bool, false, _||_, Bool·beq}
 use mathlib.Core.List.{List, []}
 use mathlib.Core.Logic.{_⊎_, inl, inr, ⊎-elim}
-use mathlib.Core.Path.{_≡_, refl}
+use mathlib.Core.Path.{_≡_, refl, subst}
 use Prim.Native.Nat.{ℕ, _+_, _%_, _≤_, _<_}
 use native.Mathlib.Omega.{arith}
 use lib.Dec.{eqb}
@@ -14,7 +14,7 @@ use Rattle.meaning.specs.Sound.{lengthOf}
 use Rattle.meaning.proofs.SpansLaws.{le-or-lt}
 use Rattle.meaning.proofs.SoundLaws.{none-sound}
 use Rattle.meaning.specs.Figure.{figure}
-use Rattle.meaning.proofs.Tells.{Tells, tells-eqb, tells-same, tells-decided}
+use Rattle.meaning.proofs.Tells.{Tells, tells-eqb, tells-or, tells-same, tells-decided}
 use Rattle.rules.specs.Limits.{rowNumbers}
 use Rattle.rules.specs.Kinds.{Kind, kinds, hasStretch}
 use Rattle.rules.specs.Rows.{rowsOf, fieldAt, numbersAt, ruleOf}
@@ -31,22 +31,28 @@ use Rattle.monitor.specs.Soundness.{soundLimits?}
 use Rattle.spans.proofs.LayoutLaws.{Stored}
 use Rattle.spans.proofs.SoundTold.{sound-stored, stretch-told}
 use Rattle.monitor.proofs.EventLaws.{length-stretch}
-use Rattle.promises.specs.Conditions.{LengthRight, LimitsRight, Ready, IsSince, RowSound, StretchRight}
+use Rattle.promises.specs.Conditions.{LengthRight, LimitsRight, Ready, SinceKind, IsSince, RowSound, StretchRight}
 use Rattle.promises.proofs.Deciding.{told-true, told-false, same-tells}
 use Rattle.promises.proofs.RangeLaws.{latest-storable}
 
 -- "each since row owns its own stretch", and no other row: one test over the lines of the table of kinds and their numbers. Past its end there is no
 -- stretch and no since row.
 abbrev sinceKind : ℕ → Bool
-sinceKind kind = eqb kind 6
+sinceKind kind = eqb kind 6 || (eqb kind 7 || eqb kind 8)
+
+pub since-kind-told : (kind : ℕ) → Tells (sinceKind kind) (SinceKind kind)
+since-kind-told kind = tells-or (tells-eqb kind 6) (tells-or (tells-eqb kind 7) (tells-eqb kind 8))
+
+past-none : (kind : ℕ) → length kinds ≤ kind → ¬ SinceKind kind
+past-none kind past = ⊎-elim (λ six. omega arith) (⊎-elim (λ seven. omega arith) (λ eight. omega arith))
 
 pub owns-told : (n : Numbers) → Tells (hasStretch (ruleOf n)) (IsSince n)
 owns-told n =
     ⊎-elim
-    (λ past. rw (past-bare (n .kind) past) (record { sound = λ none. absurd none; complete = λ since. omega arith }))
+    (λ past. rw (past-bare (n .kind) past) (record { sound = λ none. absurd none; complete = past-none (n .kind) past }))
     (λ known.
     same-tells (hasStretch (ruleOf n)) (sinceKind (n .kind))
-    (kinds-pass (λ (number : ℕ) (k : Kind). Bool·beq (hasStretch (k .rule)) (sinceKind number)) refl (n .kind) known) (tells-eqb (n .kind) _))
+    (kinds-pass (λ (number : ℕ) (k : Kind). Bool·beq (hasStretch (k .rule)) (sinceKind number)) refl (n .kind) known) (since-kind-told (n .kind)))
     (le-or-lt (length kinds) (n .kind))
 
 pub since-or-other : (n : Numbers) → IsSince n ⊎ (¬ IsSince n)
@@ -70,7 +76,7 @@ unfolding numbersAt
 past-other table row right past since =
     let whole : length table % rowNumbers ≡ 0 = right .whole in
     let none : fieldAt table row 0 ≡ 0 = List·getD-eq-default table 0 (omega arith) in
-    omega arith
+    since-kind-told 0 .complete (subst SinceKind none since)
 
 -- Sound spans can be stored.
 pub row-stored : (n : Numbers) (now event : ℕ) (S : List Span) → event ≤ timeLimit → InRange (n .a) (n .b) → RowSound n now event S → Stored S

@@ -13,7 +13,7 @@ use Rattle.rules.specs.declared.numbers.Numbers.{Numbers}
 use Rattle.rules.proofs.KindsLaws.{AllFit, RowFits, row-fits-told}
 use Rattle.rules.proofs.TableLaws.{whole-rows-told}
 use Rattle.rules.proofs.PassedLaws.{range-told}
-use Rattle.promises.specs.Conditions.{LengthRight, RowRight, truth, bit, negation, both, either, previous, since, LimitsRight}
+use Rattle.promises.specs.Conditions.{LengthRight, RowRight, truth, bit, negation, both, either, previous, since, once, always, LimitsRight}
 
 pub length-told : (table : List ℕ) → Tells (lengthPasses (length table)) (LengthRight table)
 length-told table =
@@ -32,7 +32,9 @@ right-of-fit row n (suc (suc (suc zero))) e lower fit = both e (fit .x) (fit .y)
 right-of-fit row n (suc (suc (suc (suc zero)))) e lower fit = either e (fit .x) (fit .y) (fit .a) (fit .b)
 right-of-fit row n (suc (suc (suc (suc (suc zero))))) e lower fit = previous e (fit .x) (fit .y)
 right-of-fit row n (suc (suc (suc (suc (suc (suc zero)))))) e lower fit = since e (fit .x) (fit .y)
-right-of-fit row n (suc (suc (suc (suc (suc (suc (suc kind))))))) e lower fit = absurd (omega arith)
+right-of-fit row n (suc (suc (suc (suc (suc (suc (suc zero))))))) e lower fit = once e (fit .x) (fit .y)
+right-of-fit row n (suc (suc (suc (suc (suc (suc (suc (suc zero)))))))) e lower fit = always e (fit .x) (fit .y)
+right-of-fit row n (suc (suc (suc (suc (suc (suc (suc (suc (suc kind))))))))) e lower fit = absurd (omega arith)
 
 -- What is right fits.
 fits-at : (row : ℕ) (n : Numbers) (kind : ℕ) → n .kind ≡ kind → kind < length kinds → AllFit row (kindAt kind) n → RowFits row n
@@ -47,6 +49,8 @@ fit-of-right row n (both e x y a b) = fits-at row n 3 e (omega arith) (record { 
 fit-of-right row n (either e x y a b) = fits-at row n 4 e (omega arith) (record { x = x; y = y; a = a; b = b })
 fit-of-right row n (previous e x y) = fits-at row n 5 e (omega arith) (record { x = x; y = y; a = tt; b = tt })
 fit-of-right row n (since e x y) = fits-at row n 6 e (omega arith) (record { x = x; y = y; a = tt; b = tt })
+fit-of-right row n (once e x y) = fits-at row n 7 e (omega arith) (record { x = x; y = y; a = tt; b = tt })
+fit-of-right row n (always e x y) = fits-at row n 8 e (omega arith) (record { x = x; y = y; a = tt; b = tt })
 
 pub row-told : (row : ℕ) (n : Numbers) → Tells (rowPasses row n) (RowRight row n)
 row-told row n = tells-same (λ fits. right-of-fit row n (n .kind) refl (fits .known) (fits .all)) (fit-of-right row n) (row-fits-told row n)

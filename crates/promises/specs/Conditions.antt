@@ -25,7 +25,8 @@ pub record LengthRight (table : List ℕ) : Type 0 where
   pub least : 1 ≤ rowsOf table
   pub most : rowsOf table ≤ rowLimit
 
--- 2: "kind over 6, x or y not lower, bit over 31, unused not 0" is that none of these is so: the column "used" of the rule table, kind by kind.
+-- 2: "kind over 6" (over 8 by document 02, E1), "x or y not lower, bit over 31, unused not 0" is that none of these is so: the column "used" of the rule
+-- table, kind by kind.
 pub data RowRight (row : ℕ) (n : Numbers) : Type 0 where
   truth : n .kind ≡ 0 → n .x ≡ 0 → n .y ≡ 0 → n .a ≡ 0 → n .b ≡ 0 → RowRight row n
   bit : n .kind ≡ 1 → n .x < maskBits → n .y ≡ 0 → n .a ≡ 0 → n .b ≡ 0 → RowRight row n
@@ -34,6 +35,8 @@ pub data RowRight (row : ℕ) (n : Numbers) : Type 0 where
   either : n .kind ≡ 4 → n .x < row → n .y < row → n .a ≡ 0 → n .b ≡ 0 → RowRight row n
   previous : n .kind ≡ 5 → n .x < row → n .y ≡ 0 → RowRight row n
   since : n .kind ≡ 6 → n .x < row → n .y < row → RowRight row n
+  once : n .kind ≡ 7 → n .x < row → n .y ≡ 0 → RowRight row n
+  always : n .kind ≡ 8 → n .x < row → n .y ≡ 0 → RowRight row n
 
 -- 3: "a or b outside the range above" is that this fails: "a is 0 to 86,400,000; b is a to 86,400,000, or 4,294,967,295 for 'no end'".
 pub record LimitsRight (a b : ℕ) : Type 0 where
@@ -54,9 +57,12 @@ pub record Ready (table : List ℕ) (size : ℕ) : Type 0 where
   pub right : TableRight table
   pub room : needOf table ≤ size
 
--- A since row is of kind 6.
+-- A since row is of kind 6; "The sound record counts these rows as since rows" (document 02, E1) of once and always, kinds 7 and 8.
+abbrev pub SinceKind : ℕ → Type 0
+SinceKind kind = (kind ≡ 6) ⊎ ((kind ≡ 7) ⊎ (kind ≡ 8))
+
 abbrev pub IsSince : Numbers → Type 0
-IsSince n = n .kind ≡ 6
+IsSince n = SinceKind (n .kind)
 
 -- "in each stretch: first ≤ last; each first is at least t; .. each last is at most t+b": t is the clock for the firsts, the last event's time for the
 -- latest first and last.

@@ -9,6 +9,7 @@ pub mod TextRead
 pub mod TextAsIfNotMade
 pub mod SpareWords
 pub mod SoundIsKept
+pub mod Formulas
 pub mod Verdicts
 pub mod LineTimes
 pub mod FrameTimes

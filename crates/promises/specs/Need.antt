@@ -7,7 +7,7 @@ use Prim.Native.Nat.{ℕ, zero, suc, _+_, _*_}
 use Rattle.meaning.specs.Interval.{endOf}
 use Rattle.meaning.specs.Figure.{figure}
 use Rattle.spans.specs.Layout.{spanWords}
-use Rattle.rules.specs.Kinds.{stretch, xSinceY, hasStretch}
+use Rattle.rules.specs.Kinds.{stretch, xSinceY, onceX, alwaysX, hasStretch}
 use Rattle.rules.specs.Rows.{rowsOf, numbersAt, ruleOf}
 use Rattle.rules.specs.Stretches.{needOf}
 use Rattle.rules.specs.declared.numbers.Numbers.{Numbers}
@@ -15,9 +15,12 @@ use Rattle.monitor.specs.Start.{startOf}
 use Rattle.promises.specs.Conditions.{IsSince}
 use Rattle.promises.specs.Stream.{Starts}
 
--- A since row has a stretch, kept while x is true, fed where y is, true inside a span; no other row has one.
+-- "x since y" has a stretch kept while x is true, fed where y is, true inside a span; "once x" one kept whatever comes, fed where x is true, true
+-- inside; "always x" one kept whatever comes, fed where x is false, true outside. No other row has one.
 pub record OwnsStretch (n : Numbers) : Type 0 where
-  pub since : IsSince n → ruleOf n ≡ stretch xSinceY
+  pub since : n .kind ≡ 6 → ruleOf n ≡ stretch xSinceY
+  pub once : n .kind ≡ 7 → ruleOf n ≡ stretch onceX
+  pub always : n .kind ≡ 8 → ruleOf n ≡ stretch alwaysX
   pub other : ¬ IsSince n → hasStretch (ruleOf n) ≡ false
 
 -- What the rows below n need: "The sum over since rows, in words", two for each span.

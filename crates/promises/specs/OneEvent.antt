@@ -21,7 +21,7 @@ use Rattle.monitor.specs.Step.{Setup, Call, timeOf, verdict, stepOf}
 use Rattle.promises.specs.SoundIsKept.{Sized}
 use Rattle.promises.specs.Spans.{InOrOut}
 
--- Whether a row's spans are kept, and whether it is fed, by the truths of a record: of "x since y", whether x is true, and whether y is.
+-- Whether a row's spans are kept, and whether it is fed, by the truths of a record, as `Spans` says it by formulas.
 abbrev pub KeeperTrue : List ℕ → ℕ → Stretch → Record → Type 0
 KeeperTrue table row columns r = T (keptBy true (truthAt (r .truths)) (numbersAt table row) (columns .keep))
 

@@ -17,7 +17,7 @@ use Rattle.rules.specs.declared.stretch.Stretch.{Stretch}
 use Rattle.refusals.specs.declared.refusal.Refusal.the-variants.{Store, Unsound}
 use Rattle.monitor.specs.Step.{Call, event, refusal}
 use Rattle.promises.specs.Stream.{Starts, state, history, clock, outcome}
-use Rattle.promises.specs.Conditions.{LimitsRight, IsSince}
+use Rattle.promises.specs.Conditions.{LimitsRight, SinceKind}
 use Rattle.promises.specs.Spans.{RowRuns}
 
 -- No call of a stream answers 4 or 7; and the runs, whatever room there is, are at most the figure.
@@ -41,13 +41,13 @@ pulsesAt times = map (λ (time : ℕ). event time 1) times
 abbrev pub AllKept : List Call → Type 0
 AllKept calls = length (history calls) ≡ length calls
 
--- A table with a since row of exactly these limits, and a stream, all kept, after which the row's count is the figure, whatever the words of a store
--- of exactly the need.
-pub record Filled (a b : ℕ) : Type 0 where
+-- A table with a row of this kind and exactly these limits, and a stream, all kept, after which the row's count is the figure, whatever the words of a
+-- store of exactly the need.
+pub record Filled (kind a b : ℕ) : Type 0 where
   pub table : List ℕ
   pub row : ℕ
   pub inside : row < rowsOf table
-  pub since : IsSince (numbersAt table row)
+  pub of-kind : numbersAt table row .kind ≡ kind
   pub from : numbersAt table row .a ≡ a
   pub to : numbersAt table row .b ≡ b
   pub times : List ℕ
@@ -65,5 +65,6 @@ pub record RunsFill (a b : ℕ) : Type 0 where
   pub runs : Runs (Holds truth) (Holds (bit 0)) a (endOf b) (history (pulsesAt times)) (clock (pulsesAt times)) spans
   pub many : length spans ≡ figure a (endOf b)
 
-abbrev pub FigureIsReached : Type 0
-FigureIsReached = (a b : ℕ) → LimitsRight a b → Filled a b × RunsFill a b
+pub record FigureIsReached : Type 0 where
+  pub rows : (kind a b : ℕ) → SinceKind kind → LimitsRight a b → Filled kind a b
+  pub runs : (a b : ℕ) → LimitsRight a b → RunsFill a b

@@ -21,7 +21,8 @@ use Rattle.monitor.specs.Record.{truthAt, heldAt, stretchAt, clockOf}
 use Rattle.monitor.specs.Step.{Call}
 use Rattle.promises.specs.Stream.{State, Starts, state, history, clock}
 
--- What keeps the spans of a row with a stretch at an event, and what feeds them: of "x since y", that x is true, and that y is.
+-- What keeps the spans of a row with a stretch at an event, and what feeds them: of "x since y", that x is true, and that y is; of "once x", nothing and
+-- that x is true; of "always x", nothing and that x is false.
 abbrev pub KeeperHolds : List ℕ → ℕ → Stretch → History → Type 0
 KeeperHolds table row columns = Holds (keptBy Formula.truth (formulaOf table) (numbersAt table row) (columns .keep))
 

@@ -7,7 +7,7 @@ ghost use Rattle.refusals.specs.Refusals.{numberOf, rowOf};
 pub enum Refusal {
     // 1: the table's length is not a multiple of 5, or its rows are not 1 to 64.
     Length,
-    // 2, with its row: kind over 6, x or y not lower, bit over 31, unused not 0.
+    // 2, with its row: kind over 8, x or y not lower, bit over 31, unused not 0.
     Row(u32),
     // 3, with its row: the row passes 2, but a or b is out of range.
     Limits(u32),

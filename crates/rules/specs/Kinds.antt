@@ -65,7 +65,7 @@ kinds =
     ∷ kind Lower Unused Limit Limit (stretch alwaysX)
     ∷ []
 
--- "kinds over 8" are those that have no line.
+-- "kinds over 8" are those without a line.
 abbrev pub known : ℕ → Bool
 known k = ltb k (length kinds)
 
