@@ -7,12 +7,12 @@ use crate::table::{self, Formula, Interval, Refusal, ROW_LIMIT, TIME_LIMIT};
 /// The stored last of a span without end.
 pub const NO_LAST: u64 = 18_446_744_073_709_551_615;
 
-/// The since rows, each with its interval and the place of its stretch in the store.
+/// The rows that own a stretch of the store, each with its interval and the stretch's place.
 pub fn stretches(rows: &[Formula]) -> Vec<(usize, Interval, usize)> {
     let mut place = 0;
     let mut stretches = Vec::new();
     for (row, formula) in rows.iter().enumerate() {
-        if let Formula::Since(_, _, interval) = *formula {
+        if let Some(interval) = formula.stretch() {
             stretches.push((row, interval, place));
             place += 2 * interval.spans() as usize;
         }
@@ -67,12 +67,38 @@ fn join(spans: &mut Vec<(u64, u64)>, span: (u64, u64)) {
     *spans = joined;
 }
 
+/// An event at t in a stretch, `words`, with so many spans: they are clipped at t, dropped unless they are kept, and t+a to t+b is joined in
+/// where the event feeds them. Gives how many there are then, and whether t lies in one.
+fn update(interval: Interval, words: &mut [u64], count: u32, t: u64, kept: bool, fed: bool) -> (u32, bool) {
+    let held = words.chunks(2).take(count as usize);
+    let mut spans: Vec<(u64, u64)> = held.filter(|span| span[1] >= t).map(|span| (span[0].max(t), span[1])).collect();
+    if !kept {
+        spans.clear();
+    }
+    if fed {
+        join(&mut spans, (t + interval.a, interval.b.map_or(NO_LAST, |b| t + b)));
+    }
+    words.fill(0);
+    for (place, &(first, last)) in spans.iter().enumerate() {
+        words[2 * place] = first;
+        words[2 * place + 1] = last;
+    }
+    (spans.len() as u32, spans.iter().any(|&(first, last)| first <= t && t <= last))
+}
+
 /// One event, rows rising, on a sound record.
 fn step(rows: &[Formula], store: &mut [u64], record: &mut Record, t: u64, mask: u32) -> bool {
     let before = *record;
     let mut truths = [false; ROW_LIMIT];
-    let mut places = stretches(rows).into_iter();
+    let mut stretches = stretches(rows).into_iter();
     for (row, formula) in rows.iter().enumerate() {
+        let mut inside = |kept: bool, fed: bool| {
+            let (_, interval, place) = stretches.next().unwrap();
+            let words = &mut store[place..place + 2 * interval.spans() as usize];
+            let (count, inside) = update(interval, words, before.counts[row], t, kept, fed);
+            record.counts[row] = count;
+            inside
+        };
         truths[row] = match *formula {
             Formula::True => true,
             Formula::Bit(bit) => mask & 1 << bit != 0,
@@ -80,25 +106,9 @@ fn step(rows: &[Formula], store: &mut [u64], record: &mut Record, t: u64, mask: 
             Formula::And(x, y) => truths[x] & truths[y],
             Formula::Or(x, y) => truths[x] | truths[y],
             Formula::Previous(x, interval) => before.seen == 1 && before.truths[x] == 1 && interval.has(t - before.time),
-            Formula::Since(x, y, interval) => {
-                let (_, _, place) = places.next().unwrap();
-                let words = &mut store[place..place + 2 * interval.spans() as usize];
-                let held = words.chunks(2).take(before.counts[row] as usize);
-                let mut spans: Vec<(u64, u64)> = held.filter(|span| span[1] >= t).map(|span| (span[0].max(t), span[1])).collect();
-                if !truths[x] {
-                    spans.clear();
-                }
-                if truths[y] {
-                    join(&mut spans, (t + interval.a, interval.b.map_or(NO_LAST, |b| t + b)));
-                }
-                words.fill(0);
-                for (place, &(first, last)) in spans.iter().enumerate() {
-                    words[2 * place] = first;
-                    words[2 * place + 1] = last;
-                }
-                record.counts[row] = spans.len() as u32;
-                spans.iter().any(|&(first, last)| first <= t && t <= last)
-            }
+            Formula::Since(x, y, _) => inside(truths[x], truths[y]),
+            Formula::Once(x, _) => inside(true, truths[x]),
+            Formula::Always(x, _) => !inside(true, !truths[x]),
         };
         record.truths[row] = truths[row] as u8;
     }

@@ -2,7 +2,7 @@
 
 use crate::any_record::{stretches, NO_LAST};
 use crate::board::{Call, Checked, Line, Record};
-use crate::table::{self, Formula, Interval, BITS, LONGEST, NO_END, ROW_LIMIT, TIME_LIMIT};
+use crate::table::{self, Formula, Interval, BITS, KINDS, LONGEST, NO_END, ROW_LIMIT, TIME_LIMIT};
 
 /// A generator of numbers (splitmix64).
 pub struct Random(u64);
@@ -67,7 +67,7 @@ pub fn table(random: &mut Random) -> Vec<u32> {
     let mut table = Vec::new();
     for row in 0..rows {
         let bit = if random.once_in(8) { random.below(BITS as u64) } else { random.below(BUSY_BITS) } as u32;
-        let kind = if row == 0 { random.below(2) } else { random.pick(&[0, 1, 1, 2, 3, 4, 5, 5, 6, 6, 6, 6]) };
+        let kind = if row == 0 { random.below(2) } else { random.pick(&[0, 1, 1, 2, 3, 4, 5, 5, 6, 6, 6, 7, 7, 7, 8, 8, 8]) };
         let [x, y] = [(); 2].map(|_| if row == 0 { 0 } else { random.below(row) as u32 });
         let (a, b) = limits(random);
         table.extend(match kind {
@@ -75,8 +75,8 @@ pub fn table(random: &mut Random) -> Vec<u32> {
             1 => [1, bit, 0, 0, 0],
             2 => [2, x, 0, 0, 0],
             3 | 4 => [kind as u32, x, y, 0, 0],
-            5 => [5, x, 0, a, b],
-            _ => [6, x, y, a, b],
+            6 => [6, x, y, a, b],
+            _ => [kind as u32, x, 0, a, b],
         });
     }
     table
@@ -95,7 +95,7 @@ pub fn damage_table(random: &mut Random, table: &mut Vec<u32>) {
             let multiple = 5 * random.between(ROW_LIMIT as u64 - 1, ROW_LIMIT as u64 + 2) as usize;
             table.resize(multiple, 0);
         }
-        3 => table[place] = random.pick(&[7, BITS - 1, BITS, LONGEST, LONGEST + 1, NO_END - 1, NO_END]),
+        3 => table[place] = random.pick(&[KINDS - 1, KINDS, BITS - 1, BITS, LONGEST, LONGEST + 1, NO_END - 1, NO_END]),
         4 => table[place] = random.word() as u32,
         5 => table[place] = (place / 5) as u32,
         _ => table[place] = table[place].wrapping_add(random.pick(&[1, u32::MAX])),

@@ -54,12 +54,14 @@ impl History {
             Formula::And(x, y) => now.truths[x] && now.truths[y],
             Formula::Or(x, y) => now.truths[x] || now.truths[y],
             Formula::Previous(x, interval) => before.last().map_or(false, |event| event.truths[x] && interval.has(now.time - event.time)),
-            Formula::Since(x, y, interval) => self.reached(&self.starts(x, y), interval, now.time),
+            Formula::Since(x, y, interval) => self.reached(&self.since(x, y), interval, now.time),
+            Formula::Once(x, interval) => self.events.iter().any(|event| event.truths[x] && interval.has(now.time - event.time)),
+            Formula::Always(x, interval) => self.events.iter().all(|event| event.truths[x] || !interval.has(now.time - event.time)),
         }
     }
 
     /// The times of the events at which y is true and after which x is true at every event.
-    fn starts(&self, x: usize, y: usize) -> Vec<u64> {
+    fn since(&self, x: usize, y: usize) -> Vec<u64> {
         let mut starts = Vec::new();
         for event in self.events.iter().rev() {
             if event.truths[y] {
@@ -72,15 +74,30 @@ impl History {
         starts
     }
 
+    /// The times of the events at which row x has this truth.
+    fn times(&self, x: usize, truth: bool) -> Vec<u64> {
+        self.events.iter().filter(|event| event.truths[x] == truth).map(|event| event.time).collect()
+    }
+
+    /// The times from which a row's runs are reached; of an always row those of the events where x is false.
+    fn starts(&self, row: usize) -> Vec<u64> {
+        match self.rows[row] {
+            Formula::Since(x, y, _) => self.since(x, y),
+            Formula::Once(x, _) => self.times(x, true),
+            Formula::Always(x, _) => self.times(x, false),
+            _ => Vec::new(),
+        }
+    }
+
     /// Whether u, which is not below the newest event's time, lies in [a,b] from some start.
     fn reached(&self, starts: &[u64], interval: Interval, u: u64) -> bool {
         starts.iter().any(|start| interval.has(u - start))
     }
 
     /// The maximal runs of reached values from the newest event's time on, rising. A run begins at that time or a after a start and ends b after one.
-    fn runs(&self, x: usize, y: usize, interval: Interval) -> Vec<(u64, u64)> {
+    fn runs(&self, row: usize, interval: Interval) -> Vec<(u64, u64)> {
         let now = self.time();
-        let starts = self.starts(x, y);
+        let starts = self.starts(row);
         let reached = |u: u64| u >= now && self.reached(&starts, interval, u);
         let mut firsts: Vec<u64> = starts.iter().map(|start| start + interval.a).chain([now]).collect();
         firsts.retain(|&u| reached(u) && (u == now || !reached(u - 1)));
@@ -107,8 +124,8 @@ impl History {
             }
         }
         for (row, formula) in self.rows.iter().enumerate() {
-            if let Formula::Since(x, y, interval) = *formula {
-                let runs = self.runs(x, y, interval);
+            if let Some(interval) = formula.stretch() {
+                let runs = self.runs(row, interval);
                 record.counts[row] = runs.len() as u32;
                 let end = words.len() + 2 * interval.spans() as usize;
                 words.extend(runs.iter().flat_map(|&(first, last)| [first, last]));

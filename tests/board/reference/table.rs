@@ -1,6 +1,7 @@
-//! The rule table of document 01: the limits, the formula of each row, the check, spans and need.
+//! The rule table of document 01, with the kinds 7 and 8 of document 02, E1: the limits, the formula of each row, the check, spans and need.
 
 pub const ROW_LIMIT: usize = 64;
+pub const KINDS: u32 = 9;
 pub const BITS: u32 = 32;
 pub const LONGEST: u32 = 86_400_000;
 pub const NO_END: u32 = 4_294_967_295;
@@ -55,6 +56,18 @@ pub enum Formula {
     Or(usize, usize),
     Previous(usize, Interval),
     Since(usize, usize, Interval),
+    Once(usize, Interval),
+    Always(usize, Interval),
+}
+
+impl Formula {
+    /// The interval of a row that owns a stretch of the store.
+    pub fn stretch(&self) -> Option<Interval> {
+        match *self {
+            Formula::Since(_, _, interval) | Formula::Once(_, interval) | Formula::Always(_, interval) => Some(interval),
+            _ => None,
+        }
+    }
 }
 
 /// Which of x, y and the limits a kind uses.
@@ -63,14 +76,14 @@ fn uses(kind: u32) -> (bool, bool, bool) {
         0 => (false, false, false),
         1 | 2 => (true, false, false),
         3 | 4 => (true, true, false),
-        5 => (true, false, true),
-        _ => (true, true, true),
+        6 => (true, true, true),
+        _ => (true, false, true),
     }
 }
 
 fn row(numbers: &[u32], index: usize) -> Result<Formula, u32> {
     let [kind, x, y, a, b]: [u32; NUMBERS] = numbers.try_into().unwrap();
-    if kind > 6 {
+    if kind >= KINDS {
         return Err(2);
     }
     let (uses_x, uses_y, uses_limits) = uses(kind);
@@ -95,7 +108,9 @@ fn row(numbers: &[u32], index: usize) -> Result<Formula, u32> {
         3 => Formula::And(x, y),
         4 => Formula::Or(x, y),
         5 => Formula::Previous(x, interval),
-        _ => Formula::Since(x, y, interval),
+        6 => Formula::Since(x, y, interval),
+        7 => Formula::Once(x, interval),
+        _ => Formula::Always(x, interval),
     })
 }
 
@@ -110,8 +125,7 @@ pub fn check(table: &[u32]) -> Result<Vec<Formula>, Refusal> {
 }
 
 pub fn need(rows: &[Formula]) -> u64 {
-    let words = |row: &Formula| if let Formula::Since(_, _, interval) = row { 2 * interval.spans() } else { 0 };
-    rows.iter().map(words).sum()
+    rows.iter().filter_map(Formula::stretch).map(|interval| 2 * interval.spans()).sum()
 }
 
 /// Refusals 1 to 4, or the rows.
