@@ -77,8 +77,9 @@ static void table(void) {
     int at;
     row(0, 0, 0, 0, 0, 0);
     row(1, 1, 0, 0, 0, 0);
-    for (at = 2; at < MUK_ROWS; at++) {
-        switch (at % 7) {
+    row(2, 2, 1, 0, 0, 0);
+    for (at = 3; at < MUK_ROWS; at++) {
+        switch (at % 9) {
         case 0:
             row(at, 2, at - 1, 0, 0, 0);
             break;
@@ -92,13 +93,19 @@ static void table(void) {
             row(at, 5, at - 1, 0, 0, 1);
             break;
         case 4:
-            row(at, 6, 0, 1, 6, 6);
+            row(at, 6, 0, 1, 4, 4);
             break;
         case 5:
             row(at, 6, 0, at - 1, 1, 3);
             break;
-        default:
+        case 6:
             row(at, 6, at - 3, at - 1, 2, NO_END);
+            break;
+        case 7:
+            row(at, 7, 1, 0, 4, 4);
+            break;
+        default:
+            row(at, 8, 2, 0, 4, 4);
         }
     }
 }
