@@ -6,13 +6,12 @@
 /* "Bit 0, and no touch in the 20 ms before it", as docs/RULES.md explains it; five numbers a row: kind, x, y, a, b. */
 static const uint32_t rules[] = {
     1, 0, 0, 0, 0,  /* 0: a touch on this lane */
-    0, 0, 0, 0, 0,  /* 1: true */
-    6, 1, 0, 1, 20, /* 2: a touch 1 to 20 ms ago */
-    6, 1, 0, 0, 0,  /* 3: a touch in this millisecond, up to now */
-    5, 3, 0, 0, 0,  /* 4: the same at the event before, in this millisecond */
-    4, 2, 4, 0, 0,  /* 5: row 2 or row 4 */
-    2, 5, 0, 0, 0,  /* 6: not row 5 */
-    3, 0, 6, 0, 0,  /* 7: row 0 and row 6 */
+    7, 0, 0, 1, 20, /* 1: a touch 1 to 20 ms ago */
+    7, 0, 0, 0, 0,  /* 2: a touch in this millisecond, up to now */
+    5, 2, 0, 0, 0,  /* 3: the same at the event before, in this millisecond */
+    4, 1, 3, 0, 0,  /* 4: row 1 or row 3 */
+    2, 4, 0, 0, 0,  /* 5: not row 4 */
+    3, 0, 5, 0, 0,  /* 6: row 0 and row 5 */
 };
 
 #define RULES (sizeof rules / sizeof rules[0])
