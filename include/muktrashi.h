@@ -61,7 +61,7 @@ MUK_HOLDS(offsetof(muk_record, counts) == 84);
  * the place. */
 enum {
     MUK_BAD_LENGTH = 1,  /* the table's length is not a multiple of 5, or its rows are not 1 to 64 */
-    MUK_BAD_ROW = 2,     /* a row: kind over 6, x or y not lower, bit over 31, unused number not 0 */
+    MUK_BAD_ROW = 2,     /* a row: kind over 8, x or y not lower, bit over 31, unused number not 0 */
     MUK_BAD_LIMITS = 3,  /* a row passes 2, but a is over 86,400,000, or b is not a to 86,400,000 or 4,294,967,295 ("no end") */
     MUK_SHORT_STORE = 4, /* the store is shorter than the need */
     MUK_UNSOUND = 7,     /* the record, or what the store holds beside it, is not sound */
@@ -82,8 +82,8 @@ static inline uint32_t muk_verdict(uint32_t code) { return muk_refusal(code) != 
 /* The library's version, which is MUK_VERSION where header and library belong together. This one is no code. */
 uint32_t muk_version(void);
 
-/* The table check: refusals 1 to 3, or 0, and the row count and the need in words are written. The need is the sum over since rows of two words for each
- * span: floor(b/(b-a+2))+1 spans, or 1 when b has no end. It is always enough. */
+/* The table check: refusals 1 to 3, or 0, and the row count and the need in words are written. The need is the sum over the rows of kinds 6, 7 and 8
+ * of two words for each span: floor(b/(b-a+2))+1 spans, or 1 when b has no end. It is always enough. */
 uint32_t muk_check(const uint32_t *table, uint64_t table_len, uint32_t *rows, uint64_t *need);
 
 /* A start: refusals 1 to 4, or 0. A good start writes 0 to every word of the need and makes the record one that has seen no event; what the record held
