@@ -1,4 +1,5 @@
--- The one table of kinds (document 01, "The rule table"; 7 and 8 by document 02, E1). A new kind is a line here and in src/kinds.rt, and a case of `Plain` where it is no stretch.
+-- The one table of kinds (document 01, "The rule table"; 7 and 8 by document 02, E1). A new kind is a line here and in src/kinds.rt, and a case of `Plain`
+-- where it is no stretch.
 use mathlib.Core.Bool.{Bool, true, false, cond}
 use mathlib.Core.List.{List, [], _∷_}
 use Prim.Native.Nat.{ℕ}

@@ -1,5 +1,5 @@
-// The one table of kinds (document 01; 7 and 8 by document 02, E1), private to the crate: specs/Kinds as code. A new kind is a line in both, and a case of `Plain` where it has
-// no stretch.
+// The one table of kinds (document 01; 7 and 8 by document 02, E1), private to the crate: specs/Kinds as code. A new kind is a line in both, and a case of
+// `Plain` where it has no stretch.
 
 ghost use mathlib.Core.Path.{_≡_};
 ghost use Rattle.rules.specs.Kinds.{kindAt, known, kindLine, useOf, fits};
