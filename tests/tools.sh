@@ -29,38 +29,104 @@ expect() {
     fi
 }
 
-# Lines read back: the digits of each line of a good capture, as numbers, give the same line.
-lines=$(grep -v '^$' examples/false-start.in)
+# The need or the refusal, as the program answers it.
+captures=(examples/*.in tests/cases-rules/*.in) good=()
+for capture in "${captures[@]}"; do
+    read -r answer <"${capture%.in}.out"
+    case $answer in
+    EE04*) expect 0 "(it writes $answer)" tools/table "$capture" ;;
+    EE*) expect 1 "(the program writes $answer)" tools/table "$capture" ;;
+    *)
+        expect 0 "need: $((16#$answer)) words of store" tools/table "$capture"
+        good+=("$capture")
+        ;;
+    esac
+done
+
+# Lines read back: the digits of each rule line of the good captures, and of each frame of one, as numbers, give the same line. `uses` says where in a
+# line the numbers stand that a kind uses: first digit and count.
+uses=('' '2:2' '2:2' '2:2 4:2' '2:2 4:2' '2:2 6:8 14:8' '2:2 4:2 6:8 14:8' '2:2 6:8 14:8' '2:2 6:8 14:8')
+lines=$(
+    awk 'FNR == 1 { rules = 1 } /^$/ { rules = 0 } rules' "${good[@]}" | sort -u
+    sed '1,/^$/d' examples/false-start.in
+)
 for line in $lines; do
     if [ ${#line} -eq 24 ]; then
-        again=$(tools/line rule $((16#${line:0:2})) $((16#${line:2:2})) $((16#${line:4:2})) $((16#${line:6:8})) "0x${line:14:8}")
+        kind=$((16#${line:0:2})) numbers=()
+        for place in ${uses[kind]}; do numbers+=("0x${line:${place%:*}:${place#*:}}"); done
+        again=$(tools/line rule "$kind" "${numbers[@]}")
     else
         again=$(tools/line frame $((16#${line:0:4})) "0x${line:4:8}")
     fi
     [ "$again" = "$line" ] || fail "$line is written again as $again"
 done
 
-# The need or the refusal, as the program answers it.
-captures=(examples/*.in tests/cases-rules/*.in)
-for capture in "${captures[@]}"; do
-    read -r answer <"${capture%.in}.out"
-    case $answer in
-    EE04*) expect 0 "(it writes $answer)" tools/table "$capture" ;;
-    EE*) expect 1 "(the program writes $answer)" tools/table "$capture" ;;
-    *) expect 0 "need: $((16#$answer)) words of store" tools/table "$capture" ;;
-    esac
-done
-
+# A rule by the name of its kind, with the numbers that the kind uses.
+expect 0 000000000000000000000000 tools/line rule true
+expect 0 011F00000000000000000020 tools/line rule bit 31
+expect 0 023E00000000000000000040 tools/line rule not 62
+expect 0 030102000000000000000006 tools/line rule and 1 2
+expect 0 040201000000000000000007 tools/line rule or 2 1
+expect 0 05030000000064000000C834 tools/line rule previous 3 100 200
 expect 0 060100000003E8FFFFFFFFEE tools/line rule since 1 0 1000 no-end
+expect 0 07000000000001000000141C tools/line rule once 0 1 20
+expect 0 08000005265C0005265C0016 tools/line rule always 0 86400000 86400000
+expect 0 08000000000000FFFFFFFF04 tools/line rule always 0 0 no-end
 expect 0 03E8800000006B tools/line frame 0x3E8 0x80000000
-expect 2 "counter: 70000 is outside 0 to 65535; modulo 65536 it is 4464" tools/line frame 70000 0
-expect 2 "counter: -1 is outside 0 to 65535" tools/line frame -1 0
-expect 2 "mask: -1 is outside 0 to 4294967295" tools/line frame 0 -1
-expect 2 "x: 256 is outside 0 to 255" tools/line rule bit 256 0 0 0
-expect 2 "there is no kind 'until'" tools/line rule until 0 0 0 0
-expect 2 "'ten' is no number" tools/line frame ten 0
-expect 2 "arguments are required: b" tools/line rule since 1 0 0
-expect 0 "usage: line" tools/line --help
+
+# line_refuses TEXT WORDS..: tools/line says TEXT of the words, and writes no line.
+line_refuses() {
+    text=$1
+    shift
+    expect 2 "$text" tools/line "$@"
+    [ -z "$writes" ] || fail "tools/line $* writes '$writes'"
+}
+
+# usage_of USAGE ERROR WORDS..: tools/line says these two lines of the words of a rule, and writes no line.
+usage_of() {
+    usage=$1 error=$2
+    shift 2
+    line_refuses "" rule "$@"
+    [ "$said" = "usage: line rule $usage"$'\n'"line rule: error: $error" ] || fail "tools/line rule $* says '$said'"
+}
+
+usage_of 'bit X' 'missing: x' bit
+usage_of 'and X Y' 'missing: y' and 0
+usage_of 'previous X A B' 'missing: x, a, b' previous
+usage_of 'since X Y A B' 'missing: b' since 1 0 0
+usage_of 'once X A B' 'missing: b' once 0 20
+usage_of 'always X A B' 'missing: a, b' 8 0
+usage_of 'true' 'surplus: 0' true 0
+usage_of 'not X' 'surplus: 0, 7' not 0 0 7
+usage_of 'or X Y' 'surplus: 2' 4 0 1 2
+usage_of 'once X A B' 'surplus: 20' once 0 0 1 20
+usage_of 'bit X' 'x is bit 32; bits are 0 to 31' bit 32
+usage_of 'bit X' 'x is bit -1; bits are 0 to 31' bit -1
+usage_of 'bit X' 'x is bit 256; bits are 0 to 31' bit 256
+usage_of 'not X' 'x names row 63; it may be a lower row, 0 to 62' not 63
+usage_of 'and X Y' 'y names row 63; it may be a lower row, 0 to 62' and 62 63
+usage_of 'since X Y A B' 'y names row -1; it may be a lower row, 0 to 62' since 0 -1 0 0
+usage_of 'always X A B' 'x names row 256; it may be a lower row, 0 to 62' always 256 0 0
+usage_of 'once X A B' 'a is 86400001; it may be 0 to 86400000' once 0 86400001 no-end
+usage_of 'once X A B' 'a is -1; it may be 0 to 86400000' once 0 -1 0
+usage_of 'once X A B' 'b is 4; it may be a, which is 5, to 86400000, or no end' once 0 5 4
+usage_of 'always X A B' 'b is 86400001; it may be a, which is 0, to 86400000, or no end' always 0 0 86400001
+usage_of 'always X A B' 'b is -1; it may be a, which is 0, to 86400000, or no end' always 0 0 -1
+usage_of 'previous X A B' "a: 'no-end' is no number; write it in decimal, or in hexadecimal after 0x" previous 0 no-end 5
+line_refuses "there is no kind 9; kinds are 0 to 8" rule 9 0 0 0
+line_refuses "there is no kind -1; kinds are 0 to 8" rule -1
+line_refuses "there is no kind 'until'; kinds are true, bit, not, and, or, previous, since, once, always, or their numbers" rule until 0 0 0
+line_refuses "required: KIND" rule
+line_refuses "counter: 70000 is outside 0 to 65535; modulo 65536 it is 4464" frame 70000 0
+line_refuses "counter: -1 is outside 0 to 65535" frame -1 0
+line_refuses "mask: -1 is outside 0 to 4294967295" frame 0 -1
+line_refuses "'ten' is no number" frame ten 0
+for form in '' rule; do
+    expect 0 "usage: line" tools/line $form --help
+    for kind in '0  true' '1  bit X' '2  not X' '3  and X Y' '4  or X Y' '5  previous X A B' '6  since X Y A B' '7  once X A B' '8  always X A B'; do
+        grep -q "^  $kind  " <<<"$writes" || fail "tools/line $form --help does not tell of '$kind'"
+    done
+done
 expect 0 "usage: table" tools/table --help
 expect 0 "usage: tools/footprint" tools/footprint --help
 expect 2 "there is no target 'cortex-m9'" tools/footprint cortex-m9
@@ -73,24 +139,73 @@ table_says() {
     expect "$wanted" "$text" tools/table <(printf '%s\n' "$@")
 }
 
-# rule NUMBERS: the line of a rule.
-rule() { tools/line rule "$@"; }
+# rows: the line of each five numbers on standard input; it makes lines that tools/line refuses, too.
+rows() {
+    python3 -B -c 'import sys; sys.path.append("tools"); import board_lines as b; [print(b.rule_line(map(int, row.split()))) for row in sys.stdin]'
+}
 
-table_says 0 "note: the last row does not reach row 1, which decides nothing" "$(rule bit 0 0 0 0)" "$(rule bit 1 0 0 0)" "$(rule not 0 0 0 0)"
-table_says 0 "note: no empty line ends the rules; the program refuses that by 8 (it writes EE0800)" "$(rule true 0 0 0 0)"
-table_says 0 "(it writes EE0400 once an empty line ends the rules)" "$(rule true 0 0 0 0)" "$(rule since 0 0 8192 8192)"
-table_says 1 "(the program writes EE0800, and EE0200 once an empty line ends the rules)" "$(rule 7 0 0 0 0)"
-table_says 1 "(the program writes EE0200)" "$(rule 7 0 0 0 0)" ''
-table_says 1 "there is no kind 7; kinds are 0 to 6" "$(rule 7 0 0 0 0)"
-table_says 1 "x is bit 32; bits are 0 to 31" "$(rule bit 32 0 0 0)"
-table_says 1 "'bit' does not use y, so it must be 0, and it is 1" "$(rule bit 0 1 0 0)"
-table_says 1 "'true' does not use a and b, so they must be 0" "$(rule true 0 0 0 1)"
-table_says 1 "a is 86400001; it may be 0 to 86400000" "$(rule true 0 0 0 0)" "$(rule previous 0 0 86400001 no-end)"
-table_says 1 "b is 86400001; it may be a to 86400000, or no end" "$(rule true 0 0 0 0)" "$(rule previous 0 0 0 86400001)"
-mapfile -t full < <(for _ in {1..65}; do printf '000000000000000000000000\n'; done)
+# row KIND X Y A B: its line.
+row() { rows <<<"$*"; }
+
+# Rows with their spans, words and meanings.
+no_end=4294967295 printed=()
+while read -r kind x y a b spans words meaning; do
+    printed+=("$(printf '%3d  %5s  %5s  %s' "${#printed[@]}" "$spans" "$words" "$meaning")")
+    printf '%s\n' "$kind $x $y $a $b"
+done <<END >"$work/numbers"
+0 0 0 0 0             -   - true at every event
+1 31 0 0 0            -   - bit 31 of the mask is set
+2 1 0 0 0             -   - row 1 is false
+3 0 1 0 0             -   - rows 0 and 1 are both true
+4 1 0 0 0             -   - row 1 or row 0 is true
+5 1 0 0 20            -   - row 1 was true at the event before, at most 20 ms ago
+5 1 0 0 $no_end       -   - row 1 was true at the event before, at any time
+6 1 0 100 200         2   4 row 0 was true 100 to 200 ms ago, and row 1 at every event since
+6 1 0 0 $no_end       1   2 row 0 was true at some time, and row 1 at every event since
+7 1 0 600 600       301 602 row 1 was true exactly 600 ms ago
+7 1 0 100 200         2   4 row 1 was true 100 to 200 ms ago
+7 1 0 0 20            1   2 row 1 was true at most 20 ms ago
+7 1 0 1000 $no_end    1   2 row 1 was true 1000 ms ago or longer
+7 1 0 0 $no_end       1   2 row 1 was true at some time
+8 1 0 600 600       301 602 row 1 was true at every event exactly 600 ms ago
+8 1 0 100 200         2   4 row 1 was true at every event 100 to 200 ms ago
+8 1 0 0 20            1   2 row 1 was true at every event at most 20 ms ago
+8 1 0 1000 $no_end    1   2 row 1 was true at every event 1000 ms ago or longer
+8 1 0 0 $no_end       1   2 row 1 was true at every event so far
+END
+rows <"$work/numbers" >"$work/table"
+expect 0 "need: 1230 words of store" tools/table "$work/table"
+difference=$(diff <(sed -n '2,/^need:/p' <<<"$writes" | sed '$d') <(printf '%s\n' "${printed[@]}")) || fail "tools/table writes (<), not (>):
+$difference"
+
+true=$(row 0 0 0 0 0) bit=$(row 1 0 0 0 0)
+
+# Rows that are not reached; y of once and of always, which is 0, names none.
+table_says 0 "note: the last row does not reach row 1, which decides nothing" "$bit" "$bit" "$(row 2 0 0 0 0)"
+for kind in 7 8; do
+    table_says 0 "note: the last row does not reach row 0, which decides nothing" "$bit" "$bit" "$(row $kind 1 0 0 20)"
+    [ "$(grep -c '^note: the last row does not reach' <<<"$writes")" -eq 1 ] || fail "of kind $kind over row 1 tools/table writes '$writes'"
+done
+
+table_says 0 "note: no empty line ends the rules; the program refuses that by 8 (it writes EE0800)" "$true"
+table_says 0 "(it writes EE0400 once an empty line ends the rules)" "$true" "$(row 6 0 0 8192 8192)"
+table_says 1 "(the program writes EE0800, and EE0200 once an empty line ends the rules)" "$(row 9 0 0 0 0)"
+table_says 1 "(the program writes EE0200)" "$(row 9 0 0 0 0)" ''
+table_says 1 "there is no kind 9; kinds are 0 to 8" "$(row 9 0 0 0 0)"
+table_says 1 "x is bit 32; bits are 0 to 31" "$(row 1 32 0 0 0)"
+table_says 1 "row 1: refused 2: x names row 1; it may be a lower row, 0 to 0" "$bit" "$(row 7 1 0 0 0)"
+table_says 1 "row 0: refused 2: x names row 0; there is no lower row" "$(row 8 0 0 0 0)"
+table_says 1 "'bit' does not use y, so it must be 0, and it is 1" "$(row 1 0 1 0 0)"
+table_says 1 "'once' does not use y, so it must be 0, and it is 1" "$bit" "$(row 7 0 1 0 0)"
+table_says 1 "'always' does not use y, so it must be 0, and it is 1" "$bit" "$(row 8 0 1 0 0)"
+table_says 1 "'true' does not use a and b, so they must be 0" "$(row 0 0 0 0 1)"
+table_says 1 "row 1: refused 3: a is 86400001; it may be 0 to 86400000" "$true" "$(row 5 0 0 86400001 $no_end)"
+table_says 1 "row 1: refused 3: b is 86400001; it may be a, which is 0, to 86400000, or no end" "$true" "$(row 7 0 0 0 86400001)"
+table_says 1 "row 1: refused 3: b is 2; it may be a, which is 3, to 86400000, or no end" "$true" "$(row 8 0 0 3 2)"
+mapfile -t full < <(for _ in {1..65}; do printf '%s\n' "$true"; done)
 table_says 1 "line 65: refused 1" "${full[@]}"
 table_says 1 "line 1: refused 8: not 24 digits 0-9 A-F and a line feed (the program writes EE0800)" 00000000000000000000000a
-table_says 1 "it ends in CR LF, not in a line feed alone (the program writes EE0801)" "$(rule true 0 0 0 0)" "$(rule true 0 0 0 0)"$'\r'
+table_says 1 "it ends in CR LF, not in a line feed alone (the program writes EE0801)" "$true" "$true"$'\r'
 
 # What cannot be read or written, and a reader that has gone. python is the interpreter itself, which needs nothing on the PATH.
 python=$(python3 -c 'import sys; print(sys.executable)')

@@ -25,16 +25,19 @@ Rule = namedtuple("Rule", "kind x y a b")
 # What a number of a rule is used as.
 UNUSED, BIT, LOWER = "unused", "bit", "lower row"
 
-# A kind's name, what x and y are used as, whether a and b are used, whether a row of the kind owns spans, and what it means.
-Kind = namedtuple("Kind", "name x y limits spans meaning")
+# A kind's name, what x and y are used as, whether a and b are used, whether a row of the kind owns spans, and what it means; {ago} is the interval
+# in words, and `ever` is how the kind says [0, no end].
+Kind = namedtuple("Kind", "name x y limits spans meaning ever", defaults=("at some time",))
 KINDS = (
     Kind("true", UNUSED, UNUSED, False, False, "true at every event"),
     Kind("bit", BIT, UNUSED, False, False, "bit {x} of the mask is set"),
     Kind("not", LOWER, UNUSED, False, False, "row {x} is false"),
     Kind("and", LOWER, LOWER, False, False, "rows {x} and {y} are both true"),
     Kind("or", LOWER, LOWER, False, False, "row {x} or row {y} is true"),
-    Kind("previous", LOWER, UNUSED, True, False, "row {x} was true at the event before, {ago}"),
+    Kind("previous", LOWER, UNUSED, True, False, "row {x} was true at the event before, {ago}", "at any time"),
     Kind("since", LOWER, LOWER, True, True, "row {y} was true {ago}, and row {x} at every event since"),
+    Kind("once", LOWER, UNUSED, True, True, "row {x} was true {ago}"),
+    Kind("always", LOWER, UNUSED, True, True, "row {x} was true at every event {ago}", "so far"),
 )
 
 
@@ -110,32 +113,43 @@ def read_table(text):
     return rules, False
 
 
+def used(kind):
+    """The names of the numbers that a kind uses, in the order of a rule."""
+    return [name for name, use in (("x", kind.x), ("y", kind.y)) if use != UNUSED] + (["a", "b"] if kind.limits else [])
+
+
+def kind_fault(kind):
+    """Why a number is no kind, or None."""
+    if not 0 <= kind < len(KINDS):
+        return f"there is no kind {kind}; kinds are 0 to {len(KINDS) - 1}"
+    return None
+
+
 def form_fault(rule, row):
-    """Why refusal 2 holds of a row, or None."""
-    if rule.kind >= len(KINDS):
-        return f"there is no kind {rule.kind}; kinds are 0 to {len(KINDS) - 1}"
+    """Why refusal 2 holds of a row, or None. A number below 0, which no line holds, is a fault too."""
+    fault = kind_fault(rule.kind)
+    if fault is not None:
+        return fault
     kind = KINDS[rule.kind]
     for name, use in (("x", kind.x), ("y", kind.y)):
         value = getattr(rule, name)
         if use == UNUSED and value != 0:
             return f"'{kind.name}' does not use {name}, so it must be 0, and it is {value}"
-        if use == BIT and value >= BITS:
+        if use == BIT and not 0 <= value < BITS:
             return f"{name} is bit {value}; bits are 0 to {BITS - 1}"
-        if use == LOWER and value >= row:
-            return f"{name} names row {value}; a row may name only lower rows"
+        if use == LOWER and not 0 <= value < row:
+            return f"{name} names row {value}; " + (f"it may be a lower row, 0 to {row - 1}" if row else "there is no lower row")
     if not kind.limits and (rule.a, rule.b) != (0, 0):
         return f"'{kind.name}' does not use a and b, so they must be 0"
     return None
 
 
 def limits_fault(rule, _):
-    """Why refusal 3 holds of a row that passes 2, or None."""
-    if rule.a > LONGEST:
+    """Why refusal 3 holds of a row that passes 2, or None. A number below 0 is a fault here too."""
+    if not 0 <= rule.a <= LONGEST:
         return f"a is {rule.a}; it may be 0 to {LONGEST}"
-    if rule.b != NO_END and rule.b > LONGEST:
-        return f"b is {rule.b}; it may be a to {LONGEST}, or no end"
-    if rule.b < rule.a:
-        return f"b is {rule.b}, below a, which is {rule.a}"
+    if rule.b != NO_END and not rule.a <= rule.b <= LONGEST:
+        return f"b is {rule.b}; it may be a, which is {rule.a}, to {LONGEST}, or no end"
     return None
 
 
@@ -156,18 +170,19 @@ def spans(rule):
     return rule.b // (rule.b - rule.a + 2) + 1
 
 
-def ago(a, b):
+def ago(a, b, ever):
     """The interval [a,b] in words."""
     if a == b:
         return f"exactly {a} ms ago"
     if b == NO_END:
-        return f"{a} ms ago or longer" if a else "at any time"
+        return f"{a} ms ago or longer" if a else ever
     return f"{a} to {b} ms ago" if a else f"at most {b} ms ago"
 
 
 def meaning(rule):
     """What a row that passes the check means, in words."""
-    return KINDS[rule.kind].meaning.format(x=rule.x, y=rule.y, ago=ago(rule.a, rule.b))
+    kind = KINDS[rule.kind]
+    return kind.meaning.format(x=rule.x, y=rule.y, ago=ago(rule.a, rule.b, kind.ever))
 
 
 def lower_rows(rule):
