@@ -82,37 +82,37 @@ line_refuses() {
     [ -z "$writes" ] || fail "tools/line $* writes '$writes'"
 }
 
-# usage_of USAGE ERROR WORDS..: tools/line says these two lines of the words of a rule, and writes no line.
-usage_of() {
+# rule_refuses USAGE ERROR WORDS..: tools/line says these of the words of a rule, and nothing else, and writes no line.
+rule_refuses() {
     usage=$1 error=$2
     shift 2
     line_refuses "" rule "$@"
     [ "$said" = "usage: line rule $usage"$'\n'"line rule: error: $error" ] || fail "tools/line rule $* says '$said'"
 }
 
-usage_of 'bit X' 'missing: x' bit
-usage_of 'and X Y' 'missing: y' and 0
-usage_of 'previous X A B' 'missing: x, a, b' previous
-usage_of 'since X Y A B' 'missing: b' since 1 0 0
-usage_of 'once X A B' 'missing: b' once 0 20
-usage_of 'always X A B' 'missing: a, b' 8 0
-usage_of 'true' 'surplus: 0' true 0
-usage_of 'not X' 'surplus: 0, 7' not 0 0 7
-usage_of 'or X Y' 'surplus: 2' 4 0 1 2
-usage_of 'once X A B' 'surplus: 20' once 0 0 1 20
-usage_of 'bit X' 'x is bit 32; bits are 0 to 31' bit 32
-usage_of 'bit X' 'x is bit -1; bits are 0 to 31' bit -1
-usage_of 'bit X' 'x is bit 256; bits are 0 to 31' bit 256
-usage_of 'not X' 'x names row 63; it may be a lower row, 0 to 62' not 63
-usage_of 'and X Y' 'y names row 63; it may be a lower row, 0 to 62' and 62 63
-usage_of 'since X Y A B' 'y names row -1; it may be a lower row, 0 to 62' since 0 -1 0 0
-usage_of 'always X A B' 'x names row 256; it may be a lower row, 0 to 62' always 256 0 0
-usage_of 'once X A B' 'a is 86400001; it may be 0 to 86400000' once 0 86400001 no-end
-usage_of 'once X A B' 'a is -1; it may be 0 to 86400000' once 0 -1 0
-usage_of 'once X A B' 'b is 4; it may be a, which is 5, to 86400000, or no end' once 0 5 4
-usage_of 'always X A B' 'b is 86400001; it may be a, which is 0, to 86400000, or no end' always 0 0 86400001
-usage_of 'always X A B' 'b is -1; it may be a, which is 0, to 86400000, or no end' always 0 0 -1
-usage_of 'previous X A B' "a: 'no-end' is no number; write it in decimal, or in hexadecimal after 0x" previous 0 no-end 5
+rule_refuses 'bit X' 'missing: x' bit
+rule_refuses 'and X Y' 'missing: y' and 0
+rule_refuses 'previous X A B' 'missing: x, a, b' previous
+rule_refuses 'since X Y A B' 'missing: b' since 1 0 0
+rule_refuses 'once X A B' 'missing: b' once 0 20
+rule_refuses 'always X A B' 'missing: a, b' 8 0
+rule_refuses 'true' 'surplus: 0' true 0
+rule_refuses 'not X' 'surplus: 0, 7' not 0 0 7
+rule_refuses 'or X Y' 'surplus: 2' 4 0 1 2
+rule_refuses 'once X A B' 'surplus: 20' once 0 0 1 20
+rule_refuses 'bit X' 'x is bit 32; bits are 0 to 31' bit 32
+rule_refuses 'bit X' 'x is bit -1; bits are 0 to 31' bit -1
+rule_refuses 'bit X' 'x is bit 256; bits are 0 to 31' bit 256
+rule_refuses 'not X' 'x names row 63; it may be a lower row, 0 to 62' not 63
+rule_refuses 'and X Y' 'y names row 63; it may be a lower row, 0 to 62' and 62 63
+rule_refuses 'since X Y A B' 'y names row -1; it may be a lower row, 0 to 62' since 0 -1 0 0
+rule_refuses 'always X A B' 'x names row 256; it may be a lower row, 0 to 62' always 256 0 0
+rule_refuses 'once X A B' 'a is 86400001; it may be 0 to 86400000' once 0 86400001 no-end
+rule_refuses 'once X A B' 'a is -1; it may be 0 to 86400000' once 0 -1 0
+rule_refuses 'once X A B' 'b is 4; it may be a, which is 5, to 86400000, or no end' once 0 5 4
+rule_refuses 'always X A B' 'b is 86400001; it may be a, which is 0, to 86400000, or no end' always 0 0 86400001
+rule_refuses 'always X A B' 'b is -1; it may be a, which is 0, to 86400000, or no end' always 0 0 -1
+rule_refuses 'previous X A B' "a: 'no-end' is no number; write it in decimal, or in hexadecimal after 0x" previous 0 no-end 5
 line_refuses "there is no kind 9; kinds are 0 to 8" rule 9 0 0 0
 line_refuses "there is no kind -1; kinds are 0 to 8" rule -1
 line_refuses "there is no kind 'until'; kinds are true, bit, not, and, or, previous, since, once, always, or their numbers" rule until 0 0 0
