@@ -40,59 +40,6 @@ use Rattle.promises.proofs.TableTold.{limits-told}
 use Rattle.promises.proofs.StretchTold.{in-range-of}
 use Rattle.promises.proofs.Spans.{spans-are-the-runs}
 
--- A table with a row of the kind and the limits, whose runs are those of "once p".
-record Witness (kind a b : ℕ) : Type 0 where
-  pub table : List ℕ
-  pub row : ℕ
-  pub inside : row < rowsOf table
-  pub of-kind : numbersAt table row .kind ≡ kind
-  pub from : numbersAt table row .a ≡ a
-  pub to : numbersAt table row .b ≡ b
-  pub passes : LimitsRight a b → checkOf table ≡ passed (rowsOf table) (needOf table)
-  pub columns : Stretch
-  pub rule : ruleOf (numbersAt table row) ≡ stretch columns
-  pub once-p : (h : History) (time : ℕ) (S : List Span)
-      → RowRuns table row columns h time S
-      → Runs (Holds truth) (Holds (bit 0)) a (endOf b) h time S
-
--- Limits that are not used are right.
-no-limits : limitsPass 0 0 ≡ true
-no-limits = told-true (limits-told 0 0) (record { low = omega arith; high = inl (omega arith) })
-
--- Kind 6: rows "p", "true", "true since p".
-true-since-p : (a b : ℕ) → Witness 6 a b
-unfolding numbersAt kindAt formulaOf below checkOf lengthPasses firstFault faultOf rowPasses
-true-since-p a b =
-    record {
-      table = 1 ∷ 0 ∷ 0 ∷ 0 ∷ 0 ∷ 0 ∷ 0 ∷ 0 ∷ 0 ∷ 0 ∷ 6 ∷ 1 ∷ 0 ∷ a ∷ b ∷ [];
-      row = 2;
-      inside = omega arith;
-      of-kind = refl;
-      from = refl;
-      to = refl;
-      passes = λ limits. rw (no-limits, told-true (limits-told a b) limits);
-      columns = xSinceY;
-      rule = refl;
-      once-p = λ h time S runs. runs;
-    }
-
--- Kind 7: rows "p", "once p".
-once-p : (a b : ℕ) → Witness 7 a b
-unfolding numbersAt kindAt formulaOf below checkOf lengthPasses firstFault faultOf rowPasses
-once-p a b =
-    record {
-      table = 1 ∷ 0 ∷ 0 ∷ 0 ∷ 0 ∷ 7 ∷ 0 ∷ 0 ∷ a ∷ b ∷ [];
-      row = 1;
-      inside = omega arith;
-      of-kind = refl;
-      from = refl;
-      to = refl;
-      passes = λ limits. rw (no-limits, told-true (limits-told a b) limits);
-      columns = onceX;
-      rule = refl;
-      once-p = λ h time S runs. runs;
-    }
-
 -- Runs fed at the same events are the same.
 reached-same : (x y z : History → Type 0) (a : ℕ) (b : End) (h : History) (u : ℕ)
     → ((h : History) → y h → z h)
@@ -127,23 +74,6 @@ not-not-p h = (
   λ not-not. ⊎-elim (λ set. set) (λ unset. absurd (not-not unset)) (tells-decided (holds-told (bit 0) h)),
   λ set unset. unset set,
 )
-
--- Kind 8: rows "p", "not p", "always not p"; its x is false at the events with p, which feed it.
-always-not-p : (a b : ℕ) → Witness 8 a b
-unfolding numbersAt kindAt formulaOf below checkOf lengthPasses firstFault faultOf rowPasses
-always-not-p a b =
-    record {
-      table = 1 ∷ 0 ∷ 0 ∷ 0 ∷ 0 ∷ 2 ∷ 0 ∷ 0 ∷ 0 ∷ 0 ∷ 8 ∷ 1 ∷ 0 ∷ a ∷ b ∷ [];
-      row = 2;
-      inside = omega arith;
-      of-kind = refl;
-      from = refl;
-      to = refl;
-      passes = λ limits. rw (no-limits, told-true (limits-told a b) limits);
-      columns = alwaysX;
-      rule = refl;
-      once-p = λ h time S. runs-same _ _ _ a (endOf b) h time S not-not-p;
-    }
 
 -- The times of the pulses, the oldest first.
 pulseTimes : ℕ → ℕ → List ℕ
@@ -209,48 +139,71 @@ runs-fill a b limits =
       many = many;
     }
 
-module _ (kind a b : ℕ) (limits : LimitsRight a b) (w : Witness kind a b) where
-  starts : (store : List ℕ) → length store ≡ needOf (w .table) → Starts (w .table) store
-  unfolding startOf readyOf
-  starts store exactly =
-      let need = needOf (w .table) in
-      rw (w .passes limits, exactly, le-leb need need (omega arith))
+-- A table with a row of the kind and the limits, whose runs are those of "once p".
+module _
+    (kind a b : ℕ) (limits : LimitsRight a b) (table : List ℕ) (row : ℕ) (columns : Stretch)
+    (passes : checkOf table ≡ passed (rowsOf table) (needOf table))
+    (rule : ruleOf (numbersAt table row) ≡ stretch columns)
+    (inside : row < rowsOf table)
+    (once-p : (h : History) (time : ℕ) (S : List Span)
+    → RowRuns table row columns h time S
+    → Runs (Holds truth) (Holds (bit 0)) a (endOf b) h time S)
+  where
+    starts : (store : List ℕ) → length store ≡ needOf table → Starts table store
+    unfolding startOf readyOf
+    starts store exactly = rw (passes, exactly, le-leb (needOf table) (needOf table) (omega arith))
 
-  full : (store : List ℕ)
-      → length store ≡ needOf (w .table)
-      → getD (state (w .table) store (fillingCalls a b) .found .counts) (w .row) 0 ≡ figure a (endOf b)
-  unfolding runs-fill
-  full store exactly =
-      let calls = fillingCalls a b in
-      let held = spans-are-the-runs (w .table) store (starts store exactly) calls (w .row) (w .columns) (w .inside) (w .rule) in
-      let all = runs-fill a b limits in
-      held .laid .counted
-      ∙ ap length
-      (runs-only (Holds truth) (Holds (bit 0)) a (endOf b) (history calls) (clock calls) (held .spans) (all .spans)
-      (w .once-p (history calls) (clock calls) (held .spans) (held .runs)) (all .runs))
-      ∙ all .many
+    full : (store : List ℕ)
+        → length store ≡ needOf table
+        → getD (state table store (fillingCalls a b) .found .counts) row 0 ≡ figure a (endOf b)
+    unfolding runs-fill
+    full store exactly =
+        let calls = fillingCalls a b in
+        let held = spans-are-the-runs table store (starts store exactly) calls row columns inside rule in
+        let all = runs-fill a b limits in
+        held .laid .counted
+        ∙ ap length
+        (runs-only (Holds truth) (Holds (bit 0)) a (endOf b) (history calls) (clock calls) (held .spans) (all .spans)
+        (once-p (history calls) (clock calls) (held .spans) (held .runs)) (all .runs))
+        ∙ all .many
 
-  filled : Filled kind a b
-  filled =
-      record {
-        table = w .table;
-        row = w .row;
-        inside = w .inside;
-        of-kind = w .of-kind;
-        from = w .from;
-        to = w .to;
-        times = fillingTimes a (endOf b);
-        kept = all-kept a b limits;
-        starts = starts;
-        full = full;
-      }
+    filled : numbersAt table row .kind ≡ kind → numbersAt table row .a ≡ a → numbersAt table row .b ≡ b → Filled kind a b
+    filled of-kind from to =
+        record {
+          table = table;
+          row = row;
+          inside = inside;
+          of-kind = of-kind;
+          from = from;
+          to = to;
+          times = fillingTimes a (endOf b);
+          kept = all-kept a b limits;
+          starts = starts;
+          full = full;
+        }
 
--- A witness of each kind.
-witness : (kind a b : ℕ) → SinceKind kind → Witness kind a b
-witness kind a b (inl six) = rw six (true-since-p a b)
-witness kind a b (inr (inl seven)) = rw seven (once-p a b)
-witness kind a b (inr (inr eight)) = rw eight (always-not-p a b)
+-- Limits that are not used are right.
+no-limits : limitsPass 0 0 ≡ true
+no-limits = told-true (limits-told 0 0) (record { low = omega arith; high = inl (omega arith) })
+
+-- A row with no number but its kind: 0 is "true", 1 is "p", which is bit 0, and 2 is "not row 0".
+abbrev plainRow : ℕ → List ℕ
+plainRow kind = kind ∷ 0 ∷ 0 ∷ 0 ∷ 0 ∷ []
+
+-- Such a row for each kind: "true since p" after "p" and "true"; "once p" after "p"; "always not p" after "p" and "not p", whose x is false at the
+-- events with p, which feed it.
+reached : (kind a b : ℕ) → SinceKind kind → LimitsRight a b → Filled kind a b
+unfolding numbersAt kindAt formulaOf below checkOf lengthPasses firstFault faultOf rowPasses
+reached kind a b (inl six) limits = rw six
+    (filled 6 a b limits (plainRow 1 ++ plainRow 0 ++ (6 ∷ 1 ∷ 0 ∷ a ∷ b ∷ [])) 2 xSinceY
+    (rw (no-limits, told-true (limits-told a b) limits)) refl (omega arith) (λ h time S runs. runs) refl refl refl)
+reached kind a b (inr (inl seven)) limits = rw seven
+    (filled 7 a b limits (plainRow 1 ++ (7 ∷ 0 ∷ 0 ∷ a ∷ b ∷ [])) 1 onceX
+    (rw (no-limits, told-true (limits-told a b) limits)) refl (omega arith) (λ h time S runs. runs) refl refl refl)
+reached kind a b (inr (inr eight)) limits = rw eight
+    (filled 8 a b limits (plainRow 1 ++ plainRow 2 ++ (8 ∷ 1 ∷ 0 ∷ a ∷ b ∷ [])) 2 alwaysX
+    (rw (no-limits, told-true (limits-told a b) limits)) refl (omega arith)
+    (λ h time S. runs-same _ _ _ a (endOf b) h time S not-not-p) refl refl refl)
 
 pub figure-is-reached : FigureIsReached
-figure-is-reached =
-    record { rows = λ kind a b since limits. filled kind a b limits (witness kind a b since); runs = runs-fill }
+figure-is-reached = record { rows = reached; runs = runs-fill }

@@ -1,7 +1,6 @@
 -- The need is the sum over the since rows: row by row, by what the table of kinds says of each kind.
 use mathlib.Core.List.{List}
 use mathlib.Core.Logic.{⊎-elim}
-use mathlib.Core.Path.{_≡_}
 use Prim.Native.Nat.{ℕ, zero, suc}
 use native.Mathlib.Nat.{add-zero}
 use Rattle.rules.specs.Kinds.{kindAt}
