@@ -40,7 +40,7 @@ use Rattle.promises.proofs.RangeLaws.{latest-storable}
 abbrev sinceKind : ℕ → Bool
 sinceKind kind = eqb kind 6 || (eqb kind 7 || eqb kind 8)
 
-pub since-kind-told : (kind : ℕ) → Tells (sinceKind kind) (SinceKind kind)
+since-kind-told : (kind : ℕ) → Tells (sinceKind kind) (SinceKind kind)
 since-kind-told kind = tells-or (tells-eqb kind 6) (tells-or (tells-eqb kind 7) (tells-eqb kind 8))
 
 past-none : (kind : ℕ) → length kinds ≤ kind → ¬ SinceKind kind
