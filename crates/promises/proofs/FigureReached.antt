@@ -192,18 +192,18 @@ plainRow kind = kind ∷ 0 ∷ 0 ∷ 0 ∷ 0 ∷ []
 
 -- Such a row for each kind: "true since p" after "p" and "true"; "once p" after "p"; "always not p" after "p" and "not p", whose x is false at the
 -- events with p, which feed it.
-reached : (kind a b : ℕ) → SinceKind kind → LimitsRight a b → Filled kind a b
+filled-by-kind : (kind a b : ℕ) → SinceKind kind → LimitsRight a b → Filled kind a b
 unfolding numbersAt kindAt formulaOf below checkOf lengthPasses firstFault faultOf rowPasses
-reached kind a b (inl six) limits = rw six
+filled-by-kind kind a b (inl six) limits = rw six
     (filled 6 a b limits (plainRow 1 ++ plainRow 0 ++ (6 ∷ 1 ∷ 0 ∷ a ∷ b ∷ [])) 2 xSinceY
     (rw (no-limits, told-true (limits-told a b) limits)) refl (omega arith) (λ h time S runs. runs) refl refl refl)
-reached kind a b (inr (inl seven)) limits = rw seven
+filled-by-kind kind a b (inr (inl seven)) limits = rw seven
     (filled 7 a b limits (plainRow 1 ++ (7 ∷ 0 ∷ 0 ∷ a ∷ b ∷ [])) 1 onceX
     (rw (no-limits, told-true (limits-told a b) limits)) refl (omega arith) (λ h time S runs. runs) refl refl refl)
-reached kind a b (inr (inr eight)) limits = rw eight
+filled-by-kind kind a b (inr (inr eight)) limits = rw eight
     (filled 8 a b limits (plainRow 1 ++ plainRow 2 ++ (8 ∷ 1 ∷ 0 ∷ a ∷ b ∷ [])) 2 alwaysX
     (rw (no-limits, told-true (limits-told a b) limits)) refl (omega arith)
     (λ h time S. runs-same _ _ _ a (endOf b) h time S not-not-p) refl refl refl)
 
 pub figure-is-reached : FigureIsReached
-figure-is-reached = record { rows = reached; runs = runs-fill }
+figure-is-reached = record { rows = filled-by-kind; runs = runs-fill }

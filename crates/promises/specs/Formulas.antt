@@ -9,18 +9,18 @@ use Rattle.rules.specs.RowFormula.{formulaOf}
 use Rattle.rules.specs.declared.numbers.Numbers.{Numbers}
 use Rattle.promises.specs.Conditions.{TableRight}
 
--- The formula of a row with these numbers, where `of` has those of the rows that it names.
-pub record FormulaByKind (of : ℕ → Formula) (n : Numbers) (row : Formula) : Type 0 where
-  pub truth : n .kind ≡ 0 → row ≡ Formula.truth
-  pub bit : n .kind ≡ 1 → row ≡ Formula.bit (n .x)
-  pub negation : n .kind ≡ 2 → row ≡ Formula.negation (of (n .x))
-  pub both : n .kind ≡ 3 → row ≡ Formula.both (of (n .x)) (of (n .y))
-  pub either : n .kind ≡ 4 → row ≡ Formula.either (of (n .x)) (of (n .y))
-  pub previous : n .kind ≡ 5 → row ≡ Formula.previous (of (n .x)) (n .a) (endOf (n .b))
-  pub since : n .kind ≡ 6 → row ≡ Formula.since (of (n .x)) (of (n .y)) (n .a) (endOf (n .b))
+-- What a row with these numbers means, where `of` has the formulas of the rows that it names.
+pub record FormulaByKind (of : ℕ → Formula) (n : Numbers) (means : Formula) : Type 0 where
+  pub truth : n .kind ≡ 0 → means ≡ Formula.truth
+  pub bit : n .kind ≡ 1 → means ≡ Formula.bit (n .x)
+  pub negation : n .kind ≡ 2 → means ≡ Formula.negation (of (n .x))
+  pub both : n .kind ≡ 3 → means ≡ Formula.both (of (n .x)) (of (n .y))
+  pub either : n .kind ≡ 4 → means ≡ Formula.either (of (n .x)) (of (n .y))
+  pub previous : n .kind ≡ 5 → means ≡ Formula.previous (of (n .x)) (n .a) (endOf (n .b))
+  pub since : n .kind ≡ 6 → means ≡ Formula.since (of (n .x)) (of (n .y)) (n .a) (endOf (n .b))
   -- "Kind 7 means true since x; kind 8 means not once not x".
-  pub once : n .kind ≡ 7 → row ≡ once (of (n .x)) (n .a) (endOf (n .b))
-  pub always : n .kind ≡ 8 → row ≡ always (of (n .x)) (n .a) (endOf (n .b))
+  pub once : n .kind ≡ 7 → means ≡ once (of (n .x)) (n .a) (endOf (n .b))
+  pub always : n .kind ≡ 8 → means ≡ always (of (n .x)) (n .a) (endOf (n .b))
 
 abbrev pub FormulasByKind : Type 0
 FormulasByKind = (table : List ℕ)
