@@ -1,4 +1,5 @@
-/* A firmware main loop over the monitor: one lane's touches, each taken or dropped as a bounce. The record stays where it is. */
+/* A firmware main loop over the monitor: one lane's touches, each taken or dropped as a bounce, and the board's heartbeats, which move the clock. The
+ * record stays where it is. */
 #include <stdio.h>
 
 #include "muktrashi.h"
@@ -69,8 +70,11 @@ int main(void) {
             printf("frame refused %u\n", (unsigned)muk_refusal(code));
             if (muk_refusal(code) == MUK_UNSOUND && !start()) /* The record or the store was damaged: begin again. */
                 return 1;
+        } else if (muk_moved(code)) { /* A heartbeat is no event: there is no verdict. */
+            print_time(record.clock);
+            printf(" ms: heartbeat\n");
         } else if (mask & 1) {
-            print_time(record.time);
+            print_time(record.last);
             printf(" ms: touch %s\n", muk_verdict(code) ? "taken" : "dropped");
         }
     }

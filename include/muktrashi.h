@@ -26,18 +26,19 @@ extern "C" {
 #endif
 
 /* Raised whenever the record or a code changes; muk_version answers the library's. */
-#define MUK_VERSION 1
+#define MUK_VERSION 2
 
 #define MUK_ROWS 64
 
-/* Whether an event was seen, its time, the row count, each row's truth at it, and each row's span count. `seen` and `truths` are 0 or 1; a record
- * with any other byte there is not sound (7). Padding between fields is nobody's: compare records field by field. */
+/* `seen` and `truths` are 0 or 1; a record with any other byte there is not sound (7). Padding between fields is nobody's: compare records field by
+ * field. */
 typedef struct {
-    uint8_t seen;
-    uint64_t time;
-    uint32_t rows;
-    uint8_t truths[MUK_ROWS];
-    uint32_t counts[MUK_ROWS];
+    uint8_t seen;              /* whether an event was seen; a heartbeat is none */
+    uint64_t clock;            /* the time of the last accepted call, heartbeats too; 0 before any */
+    uint64_t last;             /* the time of the last event; 0 before any */
+    uint32_t rows;             /* the row count */
+    uint8_t truths[MUK_ROWS];  /* each row's truth at the last event */
+    uint32_t counts[MUK_ROWS]; /* each row's span count */
 } muk_record;
 
 /* The library is compiled for this layout; a compiler that has another is refused. */
@@ -47,12 +48,13 @@ typedef struct {
 #define MUK_HOLDS(fact) _Static_assert(fact, "the library has another layout of muk_record")
 #endif
 #ifdef MUK_HOLDS
-MUK_HOLDS(sizeof(muk_record) == 344);
+MUK_HOLDS(sizeof(muk_record) == 352);
 MUK_HOLDS(offsetof(muk_record, seen) == 0);
-MUK_HOLDS(offsetof(muk_record, time) == 8);
-MUK_HOLDS(offsetof(muk_record, rows) == 16);
-MUK_HOLDS(offsetof(muk_record, truths) == 20);
-MUK_HOLDS(offsetof(muk_record, counts) == 84);
+MUK_HOLDS(offsetof(muk_record, clock) == 8);
+MUK_HOLDS(offsetof(muk_record, last) == 16);
+MUK_HOLDS(offsetof(muk_record, rows) == 24);
+MUK_HOLDS(offsetof(muk_record, truths) == 28);
+MUK_HOLDS(offsetof(muk_record, counts) == 92);
 #undef MUK_HOLDS
 #endif
 
@@ -61,21 +63,24 @@ MUK_HOLDS(offsetof(muk_record, counts) == 84);
  * the place. */
 enum {
     MUK_BAD_LENGTH = 1,  /* the table's length is not a multiple of 5, or its rows are not 1 to 64 */
-    MUK_BAD_ROW = 2,     /* a row: kind over 8, x or y not lower, bit over 31, unused number not 0 */
+    MUK_BAD_ROW = 2,     /* a row: kind over 8, x or y not lower, bit over 30, unused number not 0 */
     MUK_BAD_LIMITS = 3,  /* a row passes 2, but a is over 86,400,000, or b is not a to 86,400,000 or 4,294,967,295 ("no end") */
     MUK_SHORT_STORE = 4, /* the store is shorter than the need */
     MUK_UNSOUND = 7,     /* the record, or what the store holds beside it, is not sound */
     MUK_LATE = 6,        /* the time is over 281,474,976,710,655 */
-    MUK_EARLIER = 5,     /* the time is below the last event's */
+    MUK_EARLIER = 5,     /* the time is below the clock */
     MUK_BAD_LINE = 8,    /* a place before the end, but no 14 digits 0-9 A-F and line feed there */
     MUK_BAD_SUM = 9      /* a line that is well formed, its sum wrong */
 };
 
 /* A code: bits 16 to 23 are a refusal's number, 0 where nothing is refused. Bits 0 to 15 are then what the call says of itself (a verdict; whether a
- * frame was read); of a refusal they are its row, 0 where it has none. The bits above 23 are 0.
- *
- * These take a code apart. Ask for the refusal first: a verdict of 0 is "no" only where it is 0. */
+ * frame was read); of a refusal they are its row, 0 where it has none. Bit 31 alone is "clock moved", the answer to a heartbeat; in every other code it is
+ * 0. Bits 24 to 30 are 0. */
+#define MUK_MOVED 0x80000000u
+
+/* These take a code apart. Ask for the refusal, then whether the clock moved, then for the verdict: a verdict of 0 is "no" only where both are 0. */
 static inline uint32_t muk_refusal(uint32_t code) { return (code >> 16) & 0xFFu; }
+static inline int muk_moved(uint32_t code) { return (code & MUK_MOVED) != 0; }
 static inline uint32_t muk_row(uint32_t code) { return muk_refusal(code) != 0 ? code & 0xFFFFu : 0u; }
 static inline uint32_t muk_verdict(uint32_t code) { return muk_refusal(code) != 0 ? 0u : code & 0xFFFFu; }
 
@@ -86,23 +91,30 @@ uint32_t muk_version(void);
  * of two words for each span: floor(b/(b-a+2))+1 spans, or 1 when b has no end. It is always enough. */
 uint32_t muk_check(const uint32_t *table, uint64_t table_len, uint32_t *rows, uint64_t *need);
 
-/* A start: refusals 1 to 4, or 0. A good start writes 0 to every word of the need and makes the record one that has seen no event; what the record held
- * does not matter. A refused one leaves the store, and the record all zero. Words past the need are never written, by any call, and nothing depends on
- * them. */
+/* A start: refusals 1 to 4, or 0. A good start writes 0 to every word of the need and makes the record one that has seen no event, its clock 0; what
+ * the record held does not matter. A refused one leaves the store, and the record all zero. Words past the need are never written, by any call, and
+ * nothing depends on them. */
 uint32_t muk_start(const uint32_t *table, uint64_t table_len, uint64_t *store, uint64_t store_len, muk_record *record);
 
+/* A mask with this bit makes its call a heartbeat; a rule that names bit 31 is refused 2. */
+#define MUK_HEARTBEAT 0x80000000u
+
 /* One event, its time in whole milliseconds and its mask: refusals 1 to 4, then 7, 6, 5, or the verdict, 1 where the last row is true at this event,
- * otherwise 0. An event whose time equals the last one's is accepted. The record is changed where it stands. */
+ * otherwise 0. A time that equals the clock is accepted. The record is changed where it stands.
+ *
+ * A heartbeat is no event; the other bits of its mask are ignored. The same refusals, or MUK_MOVED: the clock moves to its time, and every row's spans are
+ * clipped there (ended ones are dropped, the first begins no earlier); `seen`, `last` and the truths stay. So "previous" (kind 5) measures from the last
+ * event, and "since" (kind 6) does not break. Before any event the clock alone moves. */
 uint32_t muk_event(const uint32_t *table, uint64_t table_len, uint64_t *store, uint64_t store_len, muk_record *record, uint64_t time, uint32_t mask);
 
-/* The same for a frame, whose time follows from its counter: for the first its counter, later last + ((counter - last) modulo 65,536). Frames come in
- * order and at most 65,535 ms apart, which the board's heartbeats see to: a longer gap loses turns of 65,536 ms, and a counter that steps back by 1
- * reads as 65,535 ms ahead. */
+/* The same for a frame, whose time follows from its counter: clock + ((counter - clock) modulo 65,536), which for the first is its counter. Frames come
+ * in order and at most 65,535 ms apart, events and heartbeats alike. The board's heartbeats, every 30 s, see to that, so hand them all on: a longer gap
+ * between two accepted frames loses turns of 65,536 ms. A counter that steps back by 1 reads as 65,535 ms ahead. */
 uint32_t muk_frame(const uint32_t *table, uint64_t table_len, uint64_t *store, uint64_t store_len, muk_record *record, uint16_t counter, uint32_t mask);
 
-/* The time of a frame after the time `last` (0 before the first event): refusal 6 where `last` is over 281,474,976,710,655; otherwise 0, and the time is
- * written. It may pass that limit by up to 65,535; an event at such a time is refused 6. */
-uint32_t muk_frame_time(uint64_t last, uint16_t counter, uint64_t *time);
+/* The time of a frame where the clock is `clock` (0 after a start): refusal 6 where that is over 281,474,976,710,655; otherwise 0, and the time is
+ * written. It may pass that limit by up to 65,535; a call at such a time is refused 6. */
+uint32_t muk_frame_time(uint64_t clock, uint16_t counter, uint64_t *time);
 
 /* What muk_read_frame answers where nothing is refused. */
 #define MUK_END 0

@@ -63,7 +63,7 @@ done
 
 # A rule by the name of its kind, with the numbers that the kind uses.
 expect 0 000000000000000000000000 tools/line rule true
-expect 0 011F00000000000000000020 tools/line rule bit 31
+expect 0 011E0000000000000000001F tools/line rule bit 30
 expect 0 023E00000000000000000040 tools/line rule not 62
 expect 0 030102000000000000000006 tools/line rule and 1 2
 expect 0 040201000000000000000007 tools/line rule or 2 1
@@ -100,9 +100,10 @@ rule_refuses 'true' 'surplus: 0' true 0
 rule_refuses 'not X' 'surplus: 0, 7' not 0 0 7
 rule_refuses 'or X Y' 'surplus: 2' 4 0 1 2
 rule_refuses 'once X A B' 'surplus: 20' once 0 0 1 20
-rule_refuses 'bit X' 'x is bit 32; bits are 0 to 31' bit 32
-rule_refuses 'bit X' 'x is bit -1; bits are 0 to 31' bit -1
-rule_refuses 'bit X' 'x is bit 256; bits are 0 to 31' bit 256
+rule_refuses 'bit X' "x is bit 31, the heartbeat's; bits are 0 to 30" bit 31
+rule_refuses 'bit X' 'x is bit 32; bits are 0 to 30' bit 32
+rule_refuses 'bit X' 'x is bit -1; bits are 0 to 30' bit -1
+rule_refuses 'bit X' 'x is bit 256; bits are 0 to 30' bit 256
 rule_refuses 'not X' 'x names row 63; it may be a lower row, 0 to 62' not 63
 rule_refuses 'and X Y' 'y names row 63; it may be a lower row, 0 to 62' and 62 63
 rule_refuses 'since X Y A B' 'y names row -1; it may be a lower row, 0 to 62' since 0 -1 0 0
@@ -154,7 +155,7 @@ while read -r kind x y a b spans words meaning; do
     printf '%s\n' "$kind $x $y $a $b"
 done <<END >"$work/numbers"
 0 0 0 0 0             -   - true at every event
-1 31 0 0 0            -   - bit 31 of the mask is set
+1 30 0 0 0            -   - bit 30 of the mask is set
 2 1 0 0 0             -   - row 1 is false
 3 0 1 0 0             -   - rows 0 and 1 are both true
 4 1 0 0 0             -   - row 1 or row 0 is true
@@ -192,7 +193,8 @@ table_says 0 "(it writes EE0400 once an empty line ends the rules)" "$true" "$(r
 table_says 1 "(the program writes EE0800, and EE0200 once an empty line ends the rules)" "$(row 9 0 0 0 0)"
 table_says 1 "(the program writes EE0200)" "$(row 9 0 0 0 0)" ''
 table_says 1 "there is no kind 9; kinds are 0 to 8" "$(row 9 0 0 0 0)"
-table_says 1 "x is bit 32; bits are 0 to 31" "$(row 1 32 0 0 0)"
+table_says 1 "row 0: refused 2: x is bit 31, the heartbeat's; bits are 0 to 30 (the program writes EE0200)" "$(row 1 31 0 0 0)" ''
+table_says 1 "x is bit 32; bits are 0 to 30" "$(row 1 32 0 0 0)"
 table_says 1 "row 1: refused 2: x names row 1; it may be a lower row, 0 to 0" "$bit" "$(row 7 1 0 0 0)"
 table_says 1 "row 0: refused 2: x names row 0; there is no lower row" "$(row 8 0 0 0 0)"
 table_says 1 "'bit' does not use y, so it must be 0, and it is 1" "$(row 1 0 1 0 0)"

@@ -1,4 +1,4 @@
-"""The board's rule table and text lines (document 01), as the scripts of this folder share them.
+"""The board's rule table and text lines (documents 01 and 02), as the scripts of this folder share them.
 
 A rule is five numbers: kind, x, y, a, b. A rule line is these in 24 hexadecimal digits with their sum, a frame line is a counter and a mask in 14.
 """
@@ -11,7 +11,7 @@ import sys
 from collections import namedtuple
 
 ROW_LIMIT = 64
-BITS = 32
+HEARTBEAT_BIT = 31  # a frame with it is a heartbeat; a rule asks for the bits below
 LONGEST = 86_400_000
 NO_END = 4_294_967_295
 PROGRAM_STORE = 8_192
@@ -135,8 +135,9 @@ def form_fault(rule, row):
         value = getattr(rule, name)
         if use == UNUSED and value != 0:
             return f"'{kind.name}' does not use {name}, so it must be 0, and it is {value}"
-        if use == BIT and not 0 <= value < BITS:
-            return f"{name} is bit {value}; bits are 0 to {BITS - 1}"
+        if use == BIT and not 0 <= value < HEARTBEAT_BIT:
+            whose = ", the heartbeat's" if value == HEARTBEAT_BIT else ""
+            return f"{name} is bit {value}{whose}; bits are 0 to {HEARTBEAT_BIT - 1}"
         if use == LOWER and not 0 <= value < row:
             return f"{name} names row {value}; " + (f"it may be a lower row, 0 to {row - 1}" if row else "there is no lower row")
     if not kind.limits and (rule.a, rule.b) != (0, 0):

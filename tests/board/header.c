@@ -1,5 +1,5 @@
-/* Each function that include/muktrashi.h declares, with an answer that is known and with a refusal, what refused calls leave, and where each field of the
- * record lies. examples/board.c calls four of the functions, and tests/board/reference/ has declarations of its own. */
+/* Each function that include/muktrashi.h declares, with an answer that is known and with a refusal, what refused calls and heartbeats leave, and where each
+ * field of the record lies. examples/board.c calls four of the functions, and tests/board/reference/ has declarations of its own. */
 #include <stdio.h>
 #include <string.h>
 
@@ -20,12 +20,13 @@ static void same(const char *what, uint64_t found, uint64_t wanted) {
 
 static void layout(void) {
     static const muk_record one;
-    SAME(sizeof one, 344);
+    SAME(sizeof one, 352);
     AT(seen, 0, 1);
-    AT(time, 8, 8);
-    AT(rows, 16, 4);
-    AT(truths, 20, MUK_ROWS);
-    AT(counts, 84, 4 * MUK_ROWS);
+    AT(clock, 8, 8);
+    AT(last, 16, 8);
+    AT(rows, 24, 4);
+    AT(truths, 28, MUK_ROWS);
+    AT(counts, 92, 4 * MUK_ROWS);
 }
 
 /* Bit 0 exactly 2 ms ago. */
@@ -63,7 +64,8 @@ static void start(void) {
     store[NEED] = PAST;
     SAME(muk_start(rules, NUMBERS, store, NEED + 1, &record), 0);
     SAME(record.seen, 0);
-    SAME(record.time, 0);
+    SAME(record.clock, 0);
+    SAME(record.last, 0);
     SAME(record.rows, 3);
     for (row = 0; row < MUK_ROWS; row++) {
         SAME(record.truths[row], 0);
@@ -79,9 +81,11 @@ static void second(const char *function, uint32_t code, uint64_t time) {
     int before = failures, row;
     SAME(code, 1);
     SAME(muk_refusal(code), 0);
+    SAME(muk_moved(code), 0);
     SAME(muk_verdict(code), 1);
     SAME(record.seen, 1);
-    SAME(record.time, time);
+    SAME(record.clock, time);
+    SAME(record.last, time);
     SAME(record.rows, 3);
     for (row = 0; row < MUK_ROWS; row++) {
         SAME(record.truths[row], row < 3 ? 1 : 0);
@@ -99,7 +103,8 @@ static void second(const char *function, uint32_t code, uint64_t time) {
 static void same_records(const muk_record *found, const muk_record *wanted) {
     int row;
     SAME(found->seen, wanted->seen);
-    SAME(found->time, wanted->time);
+    SAME(found->clock, wanted->clock);
+    SAME(found->last, wanted->last);
     SAME(found->rows, wanted->rows);
     for (row = 0; row < MUK_ROWS; row++) {
         SAME(found->truths[row], wanted->truths[row]);
@@ -107,14 +112,16 @@ static void same_records(const muk_record *found, const muk_record *wanted) {
     }
 }
 
-/* An event and a frame that are refused alike and leave store and record. */
+/* An event, a frame and their heartbeats that are refused alike and leave store and record. */
 static void refused(uint32_t number, uint32_t row, const uint32_t *table, uint64_t table_len, uint64_t store_len, uint64_t time, uint16_t counter) {
     int before = failures;
     muk_record record_before = record;
     uint64_t store_before[NEED + 1];
     memcpy(store_before, store, sizeof store);
     SAME(muk_event(table, table_len, store, store_len, &record, time, MASK), refusal(number, row));
+    SAME(muk_event(table, table_len, store, store_len, &record, time, MASK | MUK_HEARTBEAT), refusal(number, row));
     SAME(muk_frame(table, table_len, store, store_len, &record, counter, MASK), refusal(number, row));
+    SAME(muk_frame(table, table_len, store, store_len, &record, counter, MASK | MUK_HEARTBEAT), refusal(number, row));
     SAME(memcmp(store_before, store, sizeof store), 0);
     same_records(&record, &record_before);
     if (failures > before)
@@ -122,14 +129,25 @@ static void refused(uint32_t number, uint32_t row, const uint32_t *table, uint64
 }
 
 static void codes(void) {
+    SAME(MUK_VERSION, 2);
     SAME(muk_version(), MUK_VERSION);
+    SAME(MUK_HEARTBEAT, UINT32_C(1) << 31);
+    SAME(MUK_MOVED, UINT32_C(1) << 31);
     SAME(muk_refusal(refusal(MUK_BAD_LIMITS, 63)), 3);
     SAME(muk_row(refusal(MUK_BAD_LIMITS, 63)), 63);
     SAME(muk_verdict(refusal(MUK_BAD_LIMITS, 63)), 0);
+    SAME(muk_moved(refusal(MUK_BAD_LIMITS, 63)), 0);
     SAME(muk_row(1), 0);
+    SAME(muk_moved(1), 0);
+    SAME(muk_moved(0), 0);
+    SAME(muk_moved(MUK_MOVED), 1);
+    SAME(muk_refusal(MUK_MOVED), 0);
+    SAME(muk_row(MUK_MOVED), 0);
+    SAME(muk_verdict(MUK_MOVED), 0);
 }
 
 static void checks(void) {
+    static const uint32_t bit_30[] = {1, 30, 0, 0, 0}, bit_31[] = {1, 31, 0, 0, 0};
     uint32_t rows = ODD32;
     uint64_t need = ODD64;
     SAME(muk_check(NULL, 0, &rows, &need), refusal(MUK_BAD_LENGTH, 0));
@@ -137,8 +155,10 @@ static void checks(void) {
     SAME(muk_check(rules, HIGH * 5 + NUMBERS, &rows, &need), refusal(MUK_BAD_LENGTH, 0));
     SAME(muk_check(bad_row, NUMBERS, &rows, &need), refusal(MUK_BAD_ROW, 2));
     SAME(muk_check(bad_limits, NUMBERS, &rows, &need), refusal(MUK_BAD_LIMITS, 2));
+    SAME(muk_check(bit_31, 5, &rows, &need), refusal(MUK_BAD_ROW, 0));
     SAME(rows, ODD32);
     SAME(need, ODD64);
+    SAME(muk_check(bit_30, 5, &rows, &need), 0);
     SAME(muk_check(rules, NUMBERS, &rows, &need), 0);
     SAME(rows, 3);
     SAME(need, NEED);
@@ -191,6 +211,71 @@ static void events(void) {
     refused(MUK_LATE, 0, rules, NUMBERS, NEED, TIME_LIMIT + 1, 0);
 }
 
+/* After a heartbeat: all but the clock and the spans of `row` is as it was before. There is one span, or none where its first is 0. */
+static void moved(uint32_t code, const muk_record *before, uint64_t clock, int row, uint64_t first, uint64_t last) {
+    int failed = failures;
+    muk_record wanted = *before;
+    wanted.clock = clock;
+    wanted.counts[row] = first != 0;
+    SAME(code, MUK_MOVED);
+    same_records(&record, &wanted);
+    SAME(store[0], first);
+    SAME(store[1], last);
+    SAME(store[2], 0);
+    SAME(store[3], 0);
+    SAME(store[NEED], PAST);
+    if (failures > failed)
+        fprintf(stderr, "header.c: this was a heartbeat at %llu\n", (unsigned long long)clock);
+}
+
+static void heartbeats(void) {
+    /* Bit 0 at the event before, 2 ms ago; bit 0 1 to 20 ms ago. */
+    static const uint32_t previous[] = {1, 0, 0, 0, 0, 5, 0, 0, 2, 2}, once[] = {1, 0, 0, 0, 0, 7, 0, 0, 1, 20};
+    muk_record before;
+
+    /* Before any event: a record with a clock and no event. */
+    start();
+    before = record;
+    moved(muk_frame(rules, NUMBERS, store, NEED, &record, 65534, MASK | MUK_HEARTBEAT), &before, 65534, 2, 0, 0);
+    moved(muk_event(rules, NUMBERS, store, NEED, &record, 65535, MASK | MUK_HEARTBEAT), &before, 65535, 2, 0, 0);
+    record.last = 1;
+    refused(MUK_UNSOUND, 0, rules, NUMBERS, NEED, 65535, 65535);
+    record.last = 0;
+
+    /* Between touches, whose times go on from the clock. */
+    SAME(muk_frame(rules, NUMBERS, store, NEED, &record, 1, MASK), 0);
+    SAME(record.seen, 1);
+    SAME(record.clock, 65537);
+    SAME(record.last, 65537);
+    before = record;
+    moved(muk_frame(rules, NUMBERS, store, NEED, &record, 2, MUK_HEARTBEAT), &before, 65538, 2, 65539, 65539);
+    record.last = 65539;
+    refused(MUK_UNSOUND, 0, rules, NUMBERS, NEED, 65539, 3);
+    record.last = 65537;
+    moved(muk_event(rules, NUMBERS, store, NEED, &record, 65539, MUK_HEARTBEAT), &before, 65539, 2, 65539, 65539);
+    SAME(muk_event(rules, NUMBERS, store, NEED, &record, 65538, MASK), refusal(MUK_EARLIER, 0));
+    SAME(muk_event(rules, NUMBERS, store, NEED, &record, 65538, MUK_HEARTBEAT), refusal(MUK_EARLIER, 0));
+    second("muk_frame after heartbeats", muk_frame(rules, NUMBERS, store, NEED, &record, 3, MASK), 65539);
+    before = record;
+    moved(muk_frame(rules, NUMBERS, store, NEED, &record, 4, MUK_HEARTBEAT), &before, 65540, 2, 65541, 65541);
+    moved(muk_frame(rules, NUMBERS, store, NEED, &record, 6, MUK_HEARTBEAT), &before, 65542, 2, 0, 0);
+
+    /* A span that is clipped until it ends. */
+    SAME(muk_start(once, 10, store, NEED, &record), 0);
+    SAME(muk_event(once, 10, store, NEED, &record, 10, MASK), 0);
+    before = record;
+    moved(muk_event(once, 10, store, NEED, &record, 10, MUK_HEARTBEAT), &before, 10, 1, 11, 30);
+    moved(muk_event(once, 10, store, NEED, &record, 15, MUK_HEARTBEAT), &before, 15, 1, 15, 30);
+    moved(muk_event(once, 10, store, NEED, &record, 30, MUK_HEARTBEAT), &before, 30, 1, 30, 30);
+    moved(muk_event(once, 10, store, NEED, &record, 31, MUK_HEARTBEAT), &before, 31, 1, 0, 0);
+
+    /* The event before is 2 ms old, the heartbeat 1 ms. */
+    SAME(muk_start(previous, 10, NULL, 0, &record), 0);
+    SAME(muk_event(previous, 10, NULL, 0, &record, 10, MASK), 0);
+    SAME(muk_event(previous, 10, NULL, 0, &record, 11, MUK_HEARTBEAT), MUK_MOVED);
+    SAME(muk_event(previous, 10, NULL, 0, &record, 12, 0), 1);
+}
+
 static void times(void) {
     uint64_t time = ODD64;
     SAME(muk_frame_time(TIME_LIMIT + 1, 4, &time), refusal(MUK_LATE, 0));
@@ -235,6 +320,7 @@ int main(void) {
     checks();
     starts();
     events();
+    heartbeats();
     times();
     lines();
     return failures > 0;

@@ -31,9 +31,9 @@ check-one-outcome table rows need r r′ n n′ w w′ p q =
     let e : checked r n w ≡ checked r′ n′ w′ = one-value p q in
     (ap (λ (o : Taken). o .code) e, ap (λ (o : Taken). o .rows) e, ap (λ (o : Taken). o .need) e)
 
-pub frame-time-one-outcome : (last counter time : ℕ) (r r′ t t′ : ℕ)
-    → TimeLeaves last counter time r t → TimeLeaves last counter time r′ t′ → (r ≡ r′) × (t ≡ t′)
-frame-time-one-outcome last counter time r r′ t t′ p q =
+pub frame-time-one-outcome : (clock counter time : ℕ) (r r′ t t′ : ℕ)
+    → TimeLeaves clock counter time r t → TimeLeaves clock counter time r′ t′ → (r ≡ r′) × (t ≡ t′)
+frame-time-one-outcome clock counter time r r′ t t′ p q =
     let e : timed r t ≡ timed r′ t′ = one-value p q in (ap (λ (o : Timed). o .code) e, ap (λ (o : Timed). o .time) e)
 
 pub read-frame-one-outcome : (text : List ℕ) (place counter mask : ℕ) (r r′ n n′ c c′ m m′ : ℕ)

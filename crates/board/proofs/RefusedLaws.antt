@@ -1,12 +1,13 @@
 -- What a refusal leaves, as C sees it: "A refused call leaves every word of the store, every field of the record and every single number as it was, but
 -- for the place in a text; a refused start leaves an all-zero record."
-use mathlib.Core.Bool.{Bool}
+use mathlib.Core.Bool.{Bool, true, false, cond}
 use mathlib.Core.List.{List}
 use mathlib.Core.Option.{Option, none, some}
 use mathlib.Core.Path.{_≡_, refl}
-use Prim.Native.Nat.{ℕ, _<_, _/_}
+use Prim.Native.Nat.{ℕ}
 use native.Mathlib.Omega.{arith}
 use lib.ListN.{length}
+use Rattle.meaning.specs.Heartbeat.{heartbeat?}
 use Rattle.refusals.specs.Refusals.{Refused}
 use Rattle.rules.specs.Table as Table
 use Rattle.monitor.specs.declared.record.Record.{Record}
@@ -14,50 +15,48 @@ use Rattle.monitor.specs.Record.{nothingSeen}
 use Rattle.monitor.specs.Ready.{readyOf}
 use Rattle.monitor.specs.Start.{begin, startOf}
 use Rattle.monitor.specs.Event.{recordAfter}
-use Rattle.monitor.specs.Step.{Setup, Call, TimeReply, at, notAt, verdict, momentOf, verdictOf, outcomeBy, refusalOf, stepOf}
+use Rattle.monitor.specs.Step.{Setup, Call, TimeReply, at, notAt, maskOf, verdict, clockMoved, momentOf, verdictOf, outcomeBy, refusalOf, stepOf}
 use Rattle.lines.specs.Read as Read
-use Rattle.board.specs.Code.{verdictRoom, codeOf}
+use Rattle.board.specs.Code.{movedCode, codeOf, numberTold, IsRefusal}
 use Rattle.board.specs.Left.{startedOf, codedOf}
 use Rattle.board.specs.Numbers.{checkedOf, timedOf, lineBy, lineLeft}
-use Rattle.board.proofs.CodeLaws.{verdict-tag}
+use Rattle.board.proofs.CodeLaws.{verdict-tag, moved-tag}
 
--- A number stands above the verdict's bits.
-abbrev pub Refusal : ℕ → Type 0
-Refusal code = 0 < code / verdictRoom
-
-no-verdict : {A : Type 0} (holds : Bool) → Refusal (codeOf (verdict holds)) → A
-no-verdict holds refused = let none : codeOf (verdict holds) / verdictRoom ≡ 0 = verdict-tag holds in absurd (omega arith)
+-- What is accepted, a heartbeat or an event, tells no refusal.
+not-refused : {A : Type 0} (beat holds : Bool) → IsRefusal (codeOf (cond beat clockMoved (verdict holds))) → A
+not-refused true holds told = let none : numberTold movedCode ≡ 0 = moved-tag in absurd (omega arith)
+not-refused false holds told = let none : numberTold (codeOf (verdict holds)) ≡ 0 = verdict-tag holds in absurd (omega arith)
 
 -- An event or a frame: the record and the store stay.
 module _ (setup : Setup) (store : List ℕ) (found : Record) (call : Call) where
   stays : (fault : Option Refused) → let o = codedOf (outcomeBy setup store found (momentOf setup store found call) fault) in
-      Refusal (o .code) → (o .kept ≡ found) × (o .store ≡ store)
+      IsRefusal (o .code) → (o .kept ≡ found) × (o .store ≡ store)
   stays (some fault) refused = (refl, refl)
-  stays none refused = no-verdict (verdictOf setup (recordAfter (momentOf setup store found call) .truths)) refused
+  stays none refused = not-refused (heartbeat? (maskOf call)) (verdictOf setup (recordAfter (momentOf setup store found call) .truths)) refused
 
-  pub refused-call-stays : let o = codedOf (stepOf setup store found call) in Refusal (o .code) → (o .kept ≡ found) × (o .store ≡ store)
+  pub refused-call-stays : let o = codedOf (stepOf setup store found call) in IsRefusal (o .code) → (o .kept ≡ found) × (o .store ≡ store)
   unfolding stepOf
   refused-call-stays = stays (refusalOf setup store found call)
 
 -- A start: the record is all zero, the store stays.
 begins : (store : List ℕ) (ready : Table.CheckReply) → let o = startedOf (begin store ready) in
-    Refusal (o .code) → (o .kept ≡ nothingSeen 0) × (o .store ≡ store)
+    IsRefusal (o .code) → (o .kept ≡ nothingSeen 0) × (o .store ≡ store)
 begins store (Table.passed rows need) refused = absurd (omega arith)
 begins store (Table.refusedBy fault) refused = (refl, refl)
 
 pub refused-start-zero : (table store : List ℕ) → let o = startedOf (startOf table store) in
-    Refusal (o .code) → (o .kept ≡ nothingSeen 0) × (o .store ≡ store)
+    IsRefusal (o .code) → (o .kept ≡ nothingSeen 0) × (o .store ≡ store)
 unfolding startOf
 refused-start-zero table store = begins store (readyOf table (length store))
 
 -- A table check: row count and need stay.
 pub refused-check-stays : (said : Table.CheckReply) (rows need : ℕ) → let o = checkedOf said rows need in
-    Refusal (o .code) → (o .rows ≡ rows) × (o .need ≡ need)
+    IsRefusal (o .code) → (o .rows ≡ rows) × (o .need ≡ need)
 refused-check-stays (Table.passed counted words) rows need refused = absurd (omega arith)
 refused-check-stays (Table.refusedBy fault) rows need refused = (refl, refl)
 
 -- The time of a frame: the time stays.
-pub refused-time-stays : (reply : TimeReply) (time : ℕ) → let o = timedOf reply time in Refusal (o .code) → o .time ≡ time
+pub refused-time-stays : (reply : TimeReply) (time : ℕ) → let o = timedOf reply time in IsRefusal (o .code) → o .time ≡ time
 refused-time-stays (at shown) time refused = absurd (omega arith)
 refused-time-stays (notAt fault) time refused = refl
 

@@ -40,8 +40,8 @@ timedOf (at shown) time = timed 0 shown
 timedOf (notAt fault) time = timed (refusalCode fault) time
 
 -- The code that a frame's time is answered by, and the number that then stands where time stood.
-abbrev pub TimeLeaves : (last counter time : ℕ) → (code timeAfter : ℕ) → Type 0
-TimeLeaves last counter time code timeAfter = timed code timeAfter ≡ timedOf (frameTimeOf last counter) time
+abbrev pub TimeLeaves : (clock counter time : ℕ) → (code timeAfter : ℕ) → Type 0
+TimeLeaves clock counter time code timeAfter = timed code timeAfter ≡ timedOf (frameTimeOf clock counter) time
 
 -- "MUK_END 0", "MUK_FRAME 1": "After a good line the answer is MUK_FRAME, counter and mask are written". The place is the next one, whatever was read.
 pub record LineGiven : Type 0 where

@@ -12,13 +12,16 @@ ghost use Rattle.board.specs.Code.{refusalCode, codeOf};
 // Sixteen bits are left for a verdict.
 pub const VERDICT_ROOM: u32 = 65_536;
 
+// "clock moved": bit 31 alone.
+pub const MOVED_CODE: u32 = 2_147_483_648;
+
 // A code with the record beside it, before it is stored where it stands.
 pub struct Coded {
     pub code: u32,
     pub record: Record,
 }
 
-// The verdict, 0 or 1; or the refusal's code.
+// The verdict, 0 or 1; that the clock moved; or the refusal's code.
 pub fn code(answer: Answer) -> u32
     ensures { λ r. ⌜ r ≡ codeOf (said answer) ⌝ }
 {
@@ -29,6 +32,7 @@ pub fn code(answer: Answer) -> u32
             }
             0
         }
+        Answer::ClockMoved => MOVED_CODE,
         Answer::Refused(fault) => refusal_code(fault),
     }
 }

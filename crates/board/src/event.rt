@@ -1,4 +1,4 @@
-// One event for C. The record stays where it is and is changed there.
+// One event or heartbeat for C. The record stays where it is and is changed there.
 
 use crate::code::Coded;
 use crate::code::code;
@@ -8,7 +8,7 @@ ghost use Rattle.monitor.specs.Step as Step;
 ghost use Rattle.monitor.specs.Step.{setupOf};
 ghost use Rattle.board.specs.Left.{CallLeaves};
 
-// Refusals 1 to 4, then 7, 6, 5, or the verdict.
+// Refusals 1 to 4, then 7, 6, 5, or the verdict; of a heartbeat, that the clock moved.
 #[no_mangle]
 pub extern "C" fn muk_event(
     table: &[u32],

@@ -1,4 +1,4 @@
-// One frame for C: an event at the time that its counter shows. The record stays where it is and is changed there.
+// One frame for C: an event or a heartbeat at the time that its counter shows. The record stays where it is and is changed there.
 
 use crate::code::Coded;
 use crate::code::code;
@@ -8,7 +8,7 @@ ghost use Rattle.monitor.specs.Step as Step;
 ghost use Rattle.monitor.specs.Step.{setupOf};
 ghost use Rattle.board.specs.Left.{CallLeaves};
 
-// What an event at that time answers.
+// What `muk_event` answers at that time.
 #[no_mangle]
 pub extern "C" fn muk_frame(
     table: &[u32],

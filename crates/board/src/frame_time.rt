@@ -5,12 +5,12 @@ use monitor::answer::Timed;
 use monitor::frame_time;
 ghost use Rattle.board.specs.Numbers.{TimeLeaves};
 
-// Refusal 6 where last is over the limit; or 0, and the time of a frame after the time last is written.
+// Refusal 6 where the clock is over the limit; or 0, and the time that the counter shows since the clock is written.
 #[no_mangle]
-pub extern "C" fn muk_frame_time(last: u64, counter: u16, time: &mut u64) -> u32
-    ensures { λ r. ⌜ TimeLeaves last counter (now (time .entry)) r (now (time .exit)) ⌝ }
+pub extern "C" fn muk_frame_time(clock: u64, counter: u16, time: &mut u64) -> u32
+    ensures { λ r. ⌜ TimeLeaves clock counter (now (time .entry)) r (now (time .exit)) ⌝ }
 {
-    let found = frame_time::frame_time(last, counter);
+    let found = frame_time::frame_time(clock, counter);
     match found {
         Timed::At(at) => {
             *time = at;

@@ -7,7 +7,7 @@ use monitor::record::Record;
 use monitor::start;
 ghost use Rattle.board.specs.Left.{StartLeaves};
 
-// Refusals 1 to 4 and an all-zero record; or a record that has seen no event, and zeros in the words of the need.
+// Refusals 1 to 4 and an all-zero record; or a record that has seen no event, its clock 0, and zeros in the words of the need.
 #[no_mangle]
 pub extern "C" fn muk_start(table: &[u32], store: &mut [u64], kept: &mut Record) -> u32
     ensures { λ r. ⌜ StartLeaves (now (table .entry)) (now (store .entry)) r (now (kept .exit)) (now (store .exit)) ⌝ }

@@ -1,5 +1,5 @@
--- The code of a call after calls in place is that of the stream's reply, so the promise of the verdicts is read off it: the call is kept, or its time is
--- over the limit, or it is below the last.
+-- The code of a call after calls in place is that of the stream's reply, so the promise of the verdicts is read off it: the call is kept, a true event or a
+-- heartbeat, or its time is over the limit, or it is below the clock.
 use mathlib.Core.Bool.{Bool, true, false}
 use mathlib.Core.List.{List}
 use mathlib.Core.Logic.{_↔_, inl, inr, ⊎-elim}
@@ -9,14 +9,16 @@ use Prim.Native.Nat.{ℕ, _≤_, _<_}
 use lib.Dec.{T}
 use Rattle.meaning.specs.Formula.{Holds}
 use Rattle.meaning.proofs.SpansLaws.{le-or-lt}
+use Rattle.meaning.proofs.Tells.{tells-decided}
 use Rattle.refusals.specs.Refusals.{refused}
 use Rattle.refusals.specs.declared.refusal.Refusal.the-variants.{Earlier, Late}
 use Rattle.times.specs.Times.{timeLimit}
-use Rattle.monitor.specs.Step.{Call, timeOf, verdict}
-use Rattle.promises.specs.Stream.{Starts, Keeps, clock, longer, outcome}
+use Rattle.monitor.specs.Step.{Call, timeOf, maskOf, verdict}
+use Rattle.promises.specs.Stream.{Starts, Keeps, Beats, clock, longer, outcome}
 use Rattle.promises.specs.Verdicts.{Answered, judgedFormula}
+use Rattle.promises.proofs.StreamLaws.{beats-told}
 use Rattle.promises.proofs.Verdicts.{truths-are-meaning, verdict-is-meaning}
-use Rattle.board.specs.Code.{codeOf, refusalCode}
+use Rattle.board.specs.Code.{movedCode, codeOf, refusalCode}
 use Rattle.board.specs.Left.{Left}
 use Rattle.board_promises.specs.Meaning.{CodeMeant, CodesTellTheMeaning}
 use Rattle.board_promises.proofs.Starting.{start-is-the-streams}
@@ -26,20 +28,23 @@ module _ (table : List ℕ) (calls : List Call) (c : Call) (code : ℕ) where
   kept-meant : (holds : Bool)
       → code ≡ codeOf (verdict holds)
       → Keeps (clock calls) c
+      → ¬ Beats c
       → T holds ↔ Holds (judgedFormula table) (longer calls c)
       → CodeMeant table calls c code
-  kept-meant true is keeps means =
+  kept-meant true is keeps no-beat means =
       record {
-        judged = (λ small. keeps, λ _. omega arith);
+        judged = (λ small. (keeps, no-beat), λ _. omega arith);
+        moved = (λ told. absurd (omega arith), λ both. absurd (no-beat (both .1)));
         bit = λ small. inr is;
         yes = λ small. (λ one. means .0 tt, λ holding. is);
         late = λ over. absurd (omega (arith, keeps .within));
         earlier = λ within below. absurd (omega (arith, keeps .risen));
         number = λ large. absurd (omega arith);
       }
-  kept-meant false is keeps means =
+  kept-meant false is keeps no-beat means =
       record {
-        judged = (λ small. keeps, λ _. omega arith);
+        judged = (λ small. (keeps, no-beat), λ _. omega arith);
+        moved = (λ told. absurd (omega arith), λ both. absurd (no-beat (both .1)));
         bit = λ small. inl is;
         yes = λ small. (λ one. absurd (omega arith), λ holding. absurd (means .1 holding));
         late = λ over. absurd (omega (arith, keeps .within));
@@ -47,10 +52,23 @@ module _ (table : List ℕ) (calls : List Call) (c : Call) (code : ℕ) where
         number = λ large. absurd (omega arith);
       }
 
+  moved-meant : code ≡ movedCode → Keeps (clock calls) c → Beats c → CodeMeant table calls c code
+  moved-meant is keeps beat =
+      record {
+        judged = (λ small. absurd (omega arith), λ both. absurd (both .1 beat));
+        moved = (λ told. (keeps, beat), λ both. is);
+        bit = λ small. absurd (omega arith);
+        yes = λ small. absurd (omega arith);
+        late = λ over. absurd (omega (arith, keeps .within));
+        earlier = λ within below. absurd (omega (arith, keeps .risen));
+        number = λ told. absurd (omega arith);
+      }
+
   late-meant : timeLimit < timeOf (clock calls) c → code ≡ refusalCode (refused Late) → CodeMeant table calls c code
   late-meant over is =
       record {
-        judged = (λ small. absurd (omega arith), λ keeps. absurd (omega (arith, keeps .within)));
+        judged = (λ small. absurd (omega arith), λ both. absurd (omega (arith, both .0 .within)));
+        moved = (λ told. absurd (omega arith), λ both. absurd (omega (arith, both .0 .within)));
         bit = λ small. absurd (omega arith);
         yes = λ small. absurd (omega arith);
         late = λ _. is;
@@ -64,7 +82,8 @@ module _ (table : List ℕ) (calls : List Call) (c : Call) (code : ℕ) where
       → CodeMeant table calls c code
   earlier-meant within below is =
       record {
-        judged = (λ small. absurd (omega arith), λ keeps. absurd (omega (arith, keeps .risen)));
+        judged = (λ small. absurd (omega arith), λ both. absurd (omega (arith, both .0 .risen)));
+        moved = (λ told. absurd (omega arith), λ both. absurd (omega (arith, both .0 .risen)));
         bit = λ small. absurd (omega arith);
         yes = λ small. absurd (omega arith);
         late = λ over. absurd (omega arith);
@@ -74,14 +93,19 @@ module _ (table : List ℕ) (calls : List Call) (c : Call) (code : ℕ) where
 
   reply-meant : (lent : List ℕ) → Starts table lent → code ≡ codeOf (outcome table lent calls c .reply) → CodeMeant table calls c code
   reply-meant lent starts is =
-      let answered : Answered table lent calls c = truths-are-meaning table lent starts calls c .answered in
+      let answered : Answered table lent calls c = truths-are-meaning table lent starts calls .answered c in
       ⊎-elim
       (λ within.
       ⊎-elim
       (λ risen.
       let keeps : Keeps (clock calls) c = record { within = within; risen = risen } in
-      let told = answered .judged keeps in
-      kept-meant (told .0) (is ∙ ap codeOf (told .1)) keeps (verdict-is-meaning table lent starts calls c (told .0) (told .1) .holding))
+      ⊎-elim
+      (λ beat. moved-meant (is ∙ ap codeOf (answered .moved keeps beat)) keeps beat)
+      (λ no-beat.
+      let told = answered .judged keeps no-beat in
+      kept-meant (told .0) (is ∙ ap codeOf (told .1)) keeps no-beat
+      (verdict-is-meaning table lent starts calls c (told .0) (told .1) .holding))
+      (tells-decided (beats-told (maskOf c))))
       (λ below. earlier-meant within below (is ∙ ap codeOf (answered .earlier within below)))
       (le-or-lt (clock calls) (timeOf (clock calls) c)))
       (λ over. late-meant over (is ∙ ap codeOf (answered .late over)))

@@ -1,22 +1,22 @@
 -- What a refused call of C leaves, from the exact refusals and from `refused-call-stays`. A damaged record is not right, so it is refused 7.
-use mathlib.Core.Bool.{true, false}
 use mathlib.Core.List.{List}
 use mathlib.Core.Logic.{⊎-elim}
-use mathlib.Core.Path.{_≡_, refl, ap, _∙_}
+use mathlib.Core.Path.{_≡_, ap, _∙_}
 use native.Mathlib.Omega.{arith}
-use Prim.Native.Nat.{ℕ, _≤_}
+use Prim.Native.Nat.{ℕ}
 use Rattle.refusals.specs.Refusals.{Refused, refused}
 use Rattle.refusals.specs.declared.refusal.Refusal.the-variants.{Unsound}
 use Rattle.monitor.specs.declared.record.Record.{Record}
-use Rattle.monitor.specs.Step.{setupOf, Call, Reply, verdict, refusal, stepOf}
+use Rattle.monitor.specs.Step.{setupOf, Call, Reply, stepOf}
 use Rattle.promises.specs.Conditions.{RecordRight}
 use Rattle.promises.specs.Refusing.{CallRefused, seven}
 use Rattle.promises.proofs.Refusing.{refused-exactly}
-use Rattle.board.specs.Code.{verdictRoom, codeOf, refusalCode}
+use Rattle.board.specs.Code.{codeOf, refusalCode, IsRefusal}
 use Rattle.board.specs.Left.{Left, CallLeaves}
+use Rattle.board.proofs.CodeLaws.{refusal-only}
 use Rattle.board.proofs.RefusedLaws.{refused-call-stays}
 use Rattle.board_promises.specs.Refusing.{RefusedCallLeavesAll, Damaged, DamagedIsRefused}
-use Rattle.board_promises.proofs.NumberLaws.{call-above}
+use Rattle.board_promises.proofs.NumberLaws.{call-told}
 
 module _ (table store : List ℕ) (found : Record) (c : Call) (code : ℕ) (kept : Record) (words : List ℕ)
     (made : CallLeaves (setupOf table) store found c code kept words) where
@@ -26,28 +26,26 @@ module _ (table store : List ℕ) (found : Record) (c : Call) (code : ℕ) (kept
   code-is : code ≡ codeOf answer
   code-is = ap (λ (l : Left). l .code) made
 
-  refuses : (fault : Refused) → CallRefused (setupOf table) store found c fault → (code ≡ refusalCode fault) × (verdictRoom ≤ code)
+  refuses : (fault : Refused) → CallRefused (setupOf table) store found c fault → (code ≡ refusalCode fault) × IsRefusal code
   refuses fault wrong =
       let is : code ≡ refusalCode fault = code-is ∙ ap codeOf (refused-exactly .call (setupOf table) store found c fault .1 wrong) in
-      let above : verdictRoom ≤ refusalCode fault = call-above wrong in
-      (is, omega arith)
+      (is, rw is (call-told wrong))
 
-  only-by : (reply : Reply) → answer ≡ reply → verdictRoom ≤ code
-      → (fault : Refused) × CallRefused (setupOf table) store found c fault × (code ≡ refusalCode fault)
-  only-by (verdict true) said large = let is : code ≡ 1 = code-is ∙ ap codeOf said in absurd (omega arith)
-  only-by (verdict false) said large = let is : code ≡ 0 = code-is ∙ ap codeOf said in absurd (omega arith)
-  only-by (refusal fault) said large = (fault, refused-exactly .call (setupOf table) store found c fault .0 said, code-is ∙ ap codeOf said)
+  only : IsRefusal code → (fault : Refused) × CallRefused (setupOf table) store found c fault × (code ≡ refusalCode fault)
+  only told =
+      let (fault, said) = refusal-only answer (rw code-is at told) in
+      (fault, refused-exactly .call (setupOf table) store found c fault .0 said, code-is ∙ ap codeOf said)
 
-  stays : verdictRoom ≤ code → (kept ≡ found) × (words ≡ store)
-  stays large =
-      let stayed = refused-call-stays (setupOf table) store found c (omega (arith, code-is)) in
+  stays : IsRefusal code → (kept ≡ found) × (words ≡ store)
+  stays told =
+      let stayed = refused-call-stays (setupOf table) store found c (rw code-is at told) in
       (ap (λ (l : Left). l .kept) made ∙ stayed .0, ap (λ (l : Left). l .store) made ∙ stayed .1)
 
 pub refused-call-leaves-all : RefusedCallLeavesAll
 refused-call-leaves-all table store found c code kept words made =
     record {
       refuses = refuses table store found c code kept words made;
-      only = only-by table store found c code kept words made (stepOf (setupOf table) store found c .reply) refl;
+      only = only table store found c code kept words made;
       stays = stays table store found c code kept words made;
     }
 

@@ -1,28 +1,29 @@
--- What the code of a call means, after a good start and any calls in place: below 65,536 it is the verdict, 1 exactly when the formula judged holds over
--- the kept events and this one; any other is that of 6 or 5.
+-- What the code of a call means, after a good start and any calls in place: below 65,536 it is the verdict of a true event, 1 exactly when the formula
+-- judged holds over the kept true events and this one; bit 31 alone is a heartbeat's; any other is that of 6 or 5.
 use mathlib.Core.List.{List}
 use mathlib.Core.Logic.{_⊎_, _↔_}
 use mathlib.Core.Path.{_≡_}
-use Prim.Native.Nat.{ℕ, _≤_, _<_, _/_}
+use Prim.Native.Nat.{ℕ, _≤_, _<_}
 use Rattle.meaning.specs.Formula.{Holds}
 use Rattle.refusals.specs.Refusals.{refused, numberOf}
 use Rattle.refusals.specs.declared.refusal.Refusal.the-variants.{Earlier, Late}
 use Rattle.times.specs.Times.{timeLimit}
 use Rattle.monitor.specs.declared.record.Record.{Record}
 use Rattle.monitor.specs.Step.{setupOf, Call, timeOf}
-use Rattle.promises.specs.Stream.{Keeps, clock, longer}
+use Rattle.promises.specs.Stream.{Keeps, Beats, clock, longer}
 use Rattle.promises.specs.Verdicts.{judgedFormula}
-use Rattle.board.specs.Code.{verdictRoom, refusalCode}
+use Rattle.board.specs.Code.{verdictRoom, movedCode, refusalCode, numberTold, IsRefusal}
 use Rattle.board.specs.Left.{StartLeaves, CallLeaves}
 use Rattle.board_promises.specs.Made.{Made}
 
 pub record CodeMeant (table : List ℕ) (calls : List Call) (c : Call) (code : ℕ) : Type 0 where
-  pub judged : (code < verdictRoom) ↔ Keeps (clock calls) c
+  pub judged : (code < verdictRoom) ↔ (Keeps (clock calls) c × (¬ Beats c))
+  pub moved : (code ≡ movedCode) ↔ (Keeps (clock calls) c × Beats c)
   pub bit : code < verdictRoom → (code ≡ 0) ⊎ (code ≡ 1)
   pub yes : code < verdictRoom → (code ≡ 1) ↔ Holds (judgedFormula table) (longer calls c)
   pub late : timeLimit < timeOf (clock calls) c → code ≡ refusalCode (refused Late)
   pub earlier : timeOf (clock calls) c ≤ timeLimit → timeOf (clock calls) c < clock calls → code ≡ refusalCode (refused Earlier)
-  pub number : verdictRoom ≤ code → (code / verdictRoom ≡ numberOf Late) ⊎ (code / verdictRoom ≡ numberOf Earlier)
+  pub number : IsRefusal code → (numberTold code ≡ numberOf Late) ⊎ (numberTold code ≡ numberOf Earlier)
 
 -- A start that answered 0, calls in place, and one call more where they left record and words.
 abbrev pub CodesTellTheMeaning : Type 0

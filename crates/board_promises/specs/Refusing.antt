@@ -3,7 +3,7 @@
 use mathlib.Core.List.{List}
 use mathlib.Core.Logic.{_⊎_}
 use mathlib.Core.Path.{_≡_}
-use Prim.Native.Nat.{ℕ, _≤_, _<_}
+use Prim.Native.Nat.{ℕ, _<_}
 use lib.ListN.{length, getD}
 use Rattle.refusals.specs.Refusals.{Refused, refused}
 use Rattle.refusals.specs.declared.refusal.Refusal.the-variants.{Unsound}
@@ -12,14 +12,14 @@ use Rattle.monitor.specs.declared.record.Record.{Record}
 use Rattle.monitor.specs.Step.{setupOf, Call}
 use Rattle.promises.specs.Conditions.{Ready}
 use Rattle.promises.specs.Refusing.{CallRefused}
-use Rattle.board.specs.Code.{verdictRoom, refusalCode}
+use Rattle.board.specs.Code.{refusalCode, IsRefusal}
 use Rattle.board.specs.Left.{CallLeaves}
 
--- A code of 65,536 or more is that of the refusal which the table of refusals names, and no other call has such a code.
+-- A code that tells a number is that of the refusal which the table of refusals names, and no other call has such a code.
 pub record CallTold (table store : List ℕ) (found : Record) (c : Call) (code : ℕ) (kept : Record) (words : List ℕ) : Type 0 where
-  pub refuses : (fault : Refused) → CallRefused (setupOf table) store found c fault → (code ≡ refusalCode fault) × (verdictRoom ≤ code)
-  pub only : verdictRoom ≤ code → (fault : Refused) × CallRefused (setupOf table) store found c fault × (code ≡ refusalCode fault)
-  pub stays : verdictRoom ≤ code → (kept ≡ found) × (words ≡ store)
+  pub refuses : (fault : Refused) → CallRefused (setupOf table) store found c fault → (code ≡ refusalCode fault) × IsRefusal code
+  pub only : IsRefusal code → (fault : Refused) × CallRefused (setupOf table) store found c fault × (code ≡ refusalCode fault)
+  pub stays : IsRefusal code → (kept ≡ found) × (words ≡ store)
 
 abbrev pub RefusedCallLeavesAll : Type 0
 RefusedCallLeavesAll = (table store : List ℕ) (found : Record) (c : Call) (code : ℕ) (kept : Record) (words : List ℕ)

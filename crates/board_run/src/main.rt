@@ -1,5 +1,5 @@
-// Runs of events and of frames over `board`, by p since [2,3] q, with refused calls between. Each run writes the codes of its answers, in hexadecimal (a
-// verdict is 0 or 1, a refusal its number and its row), then the record and the store that it left.
+// Runs of events and of frames over `board`, by p since [2,3] q, with heartbeats and refused calls between. Each run writes the codes of its answers, in
+// hexadecimal (a verdict is 0 or 1, a moved clock bit 31, a refusal its number and its row), then the record and the store that it left.
 
 use board::run::run_events;
 use board::run::run_frames;
@@ -7,10 +7,12 @@ use libc::STDOUT_FILENO;
 use monitor::record::Record;
 use monitor::start::start;
 
-// p is bit 0 and q is bit 1 of the mask. The same rule with a kind 9 in row 2, which is refused.
+// p is bit 0, q is bit 1 and the heartbeat's is bit 31 of the mask. The same rule with a kind 9 in row 2, which is refused.
 const P: u32 = 1;
 
 const Q: u32 = 2;
+
+const HEARTBEAT: u32 = 2_147_483_648;
 
 const SINCE: [u32; 15] = [1, 0, 0, 0, 0, 1, 1, 0, 0, 0, 6, 0, 1, 2, 3];
 
@@ -28,7 +30,7 @@ const UNWRITTEN: u32 = 4_294_967_295;
 const LIMIT: u64 = 281_474_976_710_655;
 
 fn main() {
-    say(b"-- events, one over the limit of time and one below the last\n");
+    say(b"-- events, one over the limit of time and one below the clock\n");
     let mut space = [9; WORDS];
     let store: &mut [u64] = &mut space;
     let begun = start(&SINCE, store);
@@ -39,12 +41,21 @@ fn main() {
         &[1, 2, 3, LIMIT + 1, 2, 4],
         &[0, Q, P, P, P, P + Q],
     );
-    say(b"-- on from there: by another table, with a time that is not sound, and as it was left\n");
+    say(b"-- on from there: by another table, with an unsound clock, and as it was left\n");
     events(&KIND_9, store, kept, &[5, 6], &[P, P]);
-    events(&SINCE, store, at_time(kept, 9), &[5, 6], &[P, P]);
+    events(&SINCE, store, at_clock(kept, 9), &[5, 6], &[P, P]);
     let last = events(&SINCE, store, kept, &[5, LIMIT - 10], &[P, Q]);
-    say(b"-- frames from there, one over the limit of time\n");
-    frames(store, last, &[65_528, 3, 65_535], &[P, P, P]);
+    say(b"-- frames from there, one a heartbeat and one over the limit of time\n");
+    frames(
+        store,
+        last,
+        &[65_528, 65_530, 3, 65_535],
+        &[P, HEARTBEAT, P, P],
+    );
+    say(b"-- heartbeats: before any event, after two, and before two more, one refused\n");
+    begun_again(&[7], &[HEARTBEAT + P]);
+    begun_again(&[1, 2, 4], &[Q, P, HEARTBEAT + Q]);
+    begun_again(&[1, 2, 4, 3, 4], &[Q, P, HEARTBEAT + Q, P, P]);
     say(b"-- fewer masks, fewer times, no masks, fewer places for answers\n");
     begun_again(&[1, 2, 3, 4], &[0, Q, P]);
     begun_again(&[1, 2], &[0, Q, P, P]);
@@ -55,10 +66,10 @@ fn main() {
     );
 }
 
-// The record with another time, which its spans need not fit.
-fn at_time(kept: Record, time: u64) -> Record {
+// The record with another clock, which its spans need not fit.
+fn at_clock(kept: Record, clock: u64) -> Record {
     let mut changed = kept;
-    changed.time = time;
+    changed.clock = clock;
     changed
 }
 
@@ -96,17 +107,18 @@ fn told(store: &[u64], kept: Record, answers: &[u32; PLACES]) {
 fn code_told(code: u32) {
     if code != UNWRITTEN {
         say(b" ");
-        io::print_hex(STDOUT_FILENO, code as u64, 6);
+        io::print_hex(STDOUT_FILENO, code as u64, 8);
     }
 }
 
-// Seen, time and rows; the truth and the span count of the row that is judged.
+// Seen, clock, last and rows; the truth and the span count of the row that is judged.
 fn record_told(kept: Record) {
     let truths = kept.truths;
     let counts = kept.counts;
     say(b"\n  record:");
     byte(kept.seen);
-    number(kept.time);
+    number(kept.clock);
+    number(kept.last);
     count(kept.rows);
     byte(truths[2]);
     count(counts[2]);

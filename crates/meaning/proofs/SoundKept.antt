@@ -1,6 +1,5 @@
 -- A sound stretch stays sound, through time (a clip) and through an event (an update), whether or not a stream reaches it, with and without an
--- end; so its spans never outgrow the figure. `event` is the time of the event that the latest last counts from, `now` the present: today the two
--- are one.
+-- end; so its spans never outgrow the figure. `event` is the time of the event that the latest last counts from, `now` the present.
 use mathlib.Core.Bool.{Bool, true, false, cond}
 use mathlib.Core.List.{List, [], _∷_}
 use mathlib.Core.Path.{_≡_, refl, ap}
@@ -96,7 +95,7 @@ join-endless now latestFirst next ((first to noEnd) ∷ (q ∷ S)) present room 
     absurd (omega arith)
 
 -- Time alone: what is left at t of a stretch that was sound before.
-clip-sound : (now t event later latestFirst laterFirst long : ℕ) (b : End) (S : List Span)
+pub clip-sound : (now t event later latestFirst laterFirst long : ℕ) (b : End) (S : List Span)
     → now ≤ t
     → event ≤ later
     → t ≤ laterFirst

@@ -9,7 +9,8 @@ turn = 65_536
 abbrev pub counterOf : ℕ → ℕ
 counterOf time = time % turn
 
--- "time = last + ((counter - last) modulo 65,536)", last 0 before any. A turn is added so that the difference is not below 0.
+-- "time = last + ((counter - last) modulo 65,536)": last is the clock ("line times compare with the clock", document 02, E2), 0 before any. A turn is
+-- added so that the difference is not below 0.
 unfoldable pub frameTime : ℕ → ℕ → ℕ
 frameTime last counter = last + (counter + turn - last % turn) % turn
 

@@ -4,6 +4,7 @@ pub mod History
 pub mod Formula
 pub mod Numbered
 pub mod Computed
+pub mod Heartbeat
 pub mod Spans
 pub mod Runs
 pub mod Sound

@@ -1,5 +1,6 @@
 -- When the spans of a stretch are sound (document 01, "Spans, store and record", the last two points of its list). That "unused words are 0" is said
--- where spans are laid out in words (`Laid`).
+-- where spans are laid out in words (`Laid`). What t is, by document 02, E2: the clock is `now`; from the last event's time follow the latest last and, for
+-- "no end", the latest first.
 use mathlib.Core.List.{List, [], _∷_}
 use mathlib.Core.Path.{_≡_}
 use Prim.Native.Nat.{ℕ, _+_, _-_, _≤_, _<_}

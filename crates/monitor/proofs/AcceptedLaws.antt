@@ -1,15 +1,16 @@
 -- What is known where a call is not refused: the table passes, the store has room, the record is sound and the time is in order; and so each
--- row's spans are laid out in its stretch, and those after the event have room there, whatever the truths of the lower rows.
-use mathlib.Core.Bool.{Bool, true, false, not}
+-- row's spans are laid out in its stretch, and those after the call have room there, whatever the truths of the lower rows.
+use mathlib.Core.Bool.{Bool, true, false, cond, not}
 use mathlib.Core.List.{List}
 use mathlib.Core.Option.{Option, none}
 use mathlib.Core.Path.{_≡_, refl, sym, subst}
-use Prim.Native.Nat.{ℕ, _+_, _*_, _≤_, _<_}
+use Prim.Native.Nat.{ℕ, _+_, _*_, _≤_, _<_, max}
 use native.Mathlib.Omega.{arith}
 use lib.Dec.{T, leb}
 use lib.ListN.{length, getD}
 use borrow.Author.Tests.{leb-true}
 use Rattle.meaning.specs.Interval.{endOf, _+End_}
+use Rattle.meaning.specs.Heartbeat.{heartbeat?}
 use Rattle.meaning.specs.Spans.{reachedFrom, update}
 use Rattle.meaning.specs.Sound.{lengthOf}
 use Rattle.meaning.specs.Figure.{figure}
@@ -34,10 +35,12 @@ use Rattle.times.specs.Times.{timeLimit}
 use Rattle.monitor.specs.Record.{wasSeen, truthAt, clockOf, eventTime, heldAt, stretchAt, spansFound}
 use Rattle.monitor.specs.Soundness.{soundEntry?, soundLimits?, soundRow?, sound?}
 use Rattle.monitor.specs.Ready.{readyOf, refusalIn}
-use Rattle.monitor.specs.Event.{Moment, spansBy, spansAfter}
+use Rattle.monitor.specs.Event.{Moment, spansBy, spansAfter, truthsAfter, spansJudged, spansClipped, spansNow}
+use Rattle.monitor.specs.Core.{RowsLaid}
 use Rattle.monitor.specs.Step.{Setup, Call, timeOf, unless, refusalOf}
 use Rattle.monitor.proofs.ReadyLaws.{Ready, ready-none}
-use Rattle.monitor.proofs.EventLaws.{length-stretch}
+use Rattle.monitor.proofs.EventLaws.{length-stretch, Room}
+use Rattle.monitor.proofs.ClippingLaws.{clipped-fits}
 use Rattle.monitor.proofs.ReachedLaws.{reach-storable}
 use Rattle.monitor.proofs.SoundnessLaws.{every-at, sound-parts}
 
@@ -80,9 +83,15 @@ module _ (table store : List ℕ) (found : Record) (time : ℕ) (met : Accepted 
     pub row-inside : offset table row + width numbers ≤ length store
     row-inside = omega (arith, stretch-before table row (rowsOf table) lower, met .ready .room)
 
+    times : (eventTime found ≤ clockOf found) × (clockOf found ≤ timeLimit)
+    times = sound-parts table store found (met .sound) .times
+
     storable : Storable (eventTime found +End endOf (numbers .b))
     storable =
-        reach-storable (eventTime found) (numbers .b) (omega (arith, met .early, met .risen)) (limit-fits (numbers .a) (numbers .b) range)
+        reach-storable (eventTime found) (numbers .b) (omega (arith, times)) (limit-fits (numbers .a) (numbers .b) range)
+
+    abbrev latestFirst : ℕ
+    latestFirst = max (clockOf found) (eventTime found + numbers .a)
 
     limits-sound : soundLimits? (stretchAt table store row) (heldAt found row) (clockOf found) (eventTime found) numbers ≡ true
     unfolding soundRow?
@@ -92,26 +101,26 @@ module _ (table store : List ℕ) (found : Record) (time : ℕ) (met : Accepted 
         (every-at (rowsOf table) row (soundRow? table store found) lower (sound-parts table store found (met .sound) .rows))
 
     stretch-sound :
-        SoundStretch (stretchAt table store row) (heldAt found row) (clockOf found) (eventTime found + numbers .a) (eventTime found +End endOf (numbers .b))
+        SoundStretch (stretchAt table store row) (heldAt found row) (clockOf found) latestFirst (eventTime found +End endOf (numbers .b))
         (lengthOf (numbers .a) (endOf (numbers .b)))
     stretch-sound =
-        stretch-told (stretchAt table store row) (heldAt found row) (clockOf found) (eventTime found + numbers .a) (eventTime found +End endOf (numbers .b))
+        stretch-told (stretchAt table store row) (heldAt found row) (clockOf found) latestFirst (eventTime found +End endOf (numbers .b))
         (lengthOf (numbers .a) (endOf (numbers .b))) storable
         .sound (subst T (sym limits-sound) tt)
 
     pub row-laid : Packed (stretchAt table store row) (heldAt found row)
     row-laid =
-        sound-packed (clockOf found) time (eventTime found) (numbers .a) (eventTime found + numbers .a) (endOf (numbers .b)) (stretchAt table store row)
+        sound-packed (clockOf found) time (eventTime found) (numbers .a) latestFirst (endOf (numbers .b)) (stretchAt table store row)
         (heldAt found row) storable stretch-sound
 
     room-for : (keep feed : Bool) → spanWords * figure (numbers .a) (endOf (numbers .b)) ≤ length (stretchAt table store row)
         → spanWords * length (update keep feed time (reachedFrom time (numbers .a) (endOf (numbers .b))) (spansFound table store found row))
         ≤ length (stretchAt table store row)
     room-for keep feed size =
-        sound-ready (clockOf found) time (eventTime found) (numbers .a) (eventTime found + numbers .a) (endOf (numbers .b)) (stretchAt table store row)
-        (heldAt found row) storable stretch-sound keep feed (range-order (numbers .a) (numbers .b) range) (met .risen) (met .risen) size
+        sound-ready (clockOf found) time (eventTime found) (numbers .a) latestFirst (endOf (numbers .b)) (stretchAt table store row)
+        (heldAt found row) storable stretch-sound keep feed (range-order (numbers .a) (numbers .b) range) (met .risen) (omega (arith, times, met .risen)) size
 
--- The spans of a row after the event have room, whatever the truths of the lower rows.
+-- The spans of a row after an event have room, whatever the truths of the lower rows.
 module _ (m : Moment) (met : Accepted (m .table) (m .store) (m .found) (m .time)) (row : ℕ) (lower : row < rowsOf (m .table))
     (truths : List ℕ) where
   abbrev N : Numbers
@@ -128,3 +137,22 @@ module _ (m : Moment) (met : Accepted (m .table) (m .store) (m .found) (m .time)
   pub row-enough : spanWords * length (spansAfter m row truths) ≤ width N
   unfolding spansAfter
   row-enough = enough-by (ruleOf N) (length-stretch (m .table) (m .store) row (row-inside (m .table) (m .store) (m .found) (m .time) met row lower))
+
+-- The rows of the table can be clipped.
+pub rows-laid : (table store : List ℕ) (found : Record) (time : ℕ) → Accepted table store found time → RowsLaid table store (found .counts) (rowsOf table)
+rows-laid table store found time met =
+    record {
+      few = met .ready .passes .few-rows;
+      inside = row-inside table store found time met;
+      laid = row-laid table store found time met;
+    }
+
+-- So the spans of each row after the call have room, be it an event or a heartbeat.
+pub now-enough : (m : Moment) → Accepted (m .table) (m .store) (m .found) (m .time) → Room (m .table) (spansNow m) (rowsOf (m .table))
+now-enough m met = go (heartbeat? (m .mask))
+  where
+    go : (heartbeat : Bool)
+        → Room (m .table) (cond heartbeat (spansClipped (m .table) (m .store) (m .found .counts) (m .time)) (spansJudged m)) (rowsOf (m .table))
+    go true row lower =
+        clipped-fits (m .table) (m .store) (m .found .counts) (rowsOf (m .table)) (m .time) row (rows-laid (m .table) (m .store) (m .found) (m .time) met) lower
+    go false row lower = row-enough m met row lower (truthsAfter m row)

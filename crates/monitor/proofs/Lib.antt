@@ -5,8 +5,9 @@ pub mod SoundnessLaws
 pub mod ReachedLaws
 pub mod RuleLaws
 pub mod RowLaws
-pub mod EventLaws
 pub mod RisingLaws
+pub mod EventLaws
+pub mod ClippingLaws
 pub mod AcceptedLaws
 pub mod TurnLaws
 pub mod StepLaws

@@ -3,12 +3,14 @@ use mathlib.Core.Path.{_≡_, refl, ap}
 use Rattle.refusals.proofs.Outcomes.{refusalOf, refusal-back}
 use Rattle.monitor.specs.declared.answer.Answer.{Answer}
 use Rattle.monitor.specs.declared.answer.Answer.the-variants as Answer
-use Rattle.monitor.specs.Step.{Reply, verdict, refusal, said}
+use Rattle.monitor.specs.Step.{Reply, verdict, clockMoved, refusal, said}
 
 abbrev pub answerOf : Reply → Answer
 answerOf (verdict holds) = Answer.Verdict holds
+answerOf clockMoved = Answer.ClockMoved
 answerOf (refusal fault) = Answer.Refused (refusalOf fault)
 
 pub answer-back : (answer : Answer) → answerOf (said answer) ≡ answer
 answer-back (Answer.Verdict holds) = refl
+answer-back Answer.ClockMoved = refl
 answer-back (Answer.Refused fault) = ap Answer.Refused (refusal-back fault)

@@ -8,7 +8,8 @@ use native.Mathlib.Omega.{arith}
 use lib.ListN.{length, getD, set, length-set}
 use lib.Seq.{getD-set-same, getD-set-other}
 use Rattle.monitor.specs.Record.{byteOf, truthAt}
-use Rattle.monitor.specs.Event.{Moment, truthOf, truthsAfter, spansNow, countsAfter}
+use Rattle.meaning.specs.Spans.{Span}
+use Rattle.monitor.specs.Event.{Moment, truthOf, truthsAfter, countsWith}
 use Rattle.monitor.proofs.RecordLaws.{byte-back}
 
 -- Lists that are made by setting the entry of each row in turn.
@@ -34,7 +35,7 @@ module _ {A : Type 0} (made : ℕ → List A) (entry : ℕ → A) (next : (n : �
   rising-later other (suc n) r later =
       rw (next n, getD-set-other (made n) n r (entry n) other (λ e. omega arith)) (rising-later other n r (omega arith))
 
--- The truths, and the counts, after the rows below n.
+-- The truths after the rows below n.
 module _ (m : Moment) where
   -- The byte that a row's truth becomes.
   abbrev byte : ℕ → ℕ
@@ -43,10 +44,6 @@ module _ (m : Moment) where
   truths-next : (n : ℕ) → truthsAfter m (suc n) ≡ set (truthsAfter m n) n (byte n)
   unfolding truthsAfter
   truths-next n = refl
-
-  counts-next : (n : ℕ) → countsAfter m (suc n) ≡ set (countsAfter m n) n (length (spansNow m n))
-  unfolding countsAfter
-  counts-next n = refl
 
   pub length-truths : (n : ℕ) → length (truthsAfter m n) ≡ length (m .found .truths)
   unfolding truthsAfter
@@ -63,14 +60,20 @@ module _ (m : Moment) where
   unfolding truthsAfter
   truth-left n r later = rising-later (truthsAfter m) byte truths-next 0 n r later
 
-  pub length-counts : (n : ℕ) → length (countsAfter m n) ≡ length (m .found .counts)
-  unfolding countsAfter
-  length-counts n = rising-length (countsAfter m) (λ r. length (spansNow m r)) counts-next n
+-- The counts.
+module _ (spans : ℕ → List Span) (counts : List ℕ) where
+  counts-next : (n : ℕ) → countsWith spans counts (suc n) ≡ set (countsWith spans counts n) n (length (spans n))
+  unfolding countsWith
+  counts-next n = refl
 
-  pub count-set : (n r : ℕ) → r < n → r < length (m .found .counts) → getD (countsAfter m n) r 0 ≡ length (spansNow m r)
-  unfolding countsAfter
-  count-set n r done inside = rising-at (countsAfter m) (λ r. length (spansNow m r)) counts-next 0 n r done inside
+  pub length-counts : (n : ℕ) → length (countsWith spans counts n) ≡ length counts
+  unfolding countsWith
+  length-counts n = rising-length (countsWith spans counts) (λ r. length (spans r)) counts-next n
 
-  pub count-left : (n r : ℕ) → n ≤ r → getD (countsAfter m n) r 0 ≡ getD (m .found .counts) r 0
-  unfolding countsAfter
-  count-left n r later = rising-later (countsAfter m) (λ r. length (spansNow m r)) counts-next 0 n r later
+  pub count-set : (n r : ℕ) → r < n → r < length counts → getD (countsWith spans counts n) r 0 ≡ length (spans r)
+  unfolding countsWith
+  count-set n r done inside = rising-at (countsWith spans counts) (λ r. length (spans r)) counts-next 0 n r done inside
+
+  pub count-left : (n r : ℕ) → n ≤ r → getD (countsWith spans counts n) r 0 ≡ getD counts r 0
+  unfolding countsWith
+  count-left n r later = rising-later (countsWith spans counts) (λ r. length (spans r)) counts-next 0 n r later

@@ -2,14 +2,14 @@
 use mathlib.Core.Bool.{Bool, true, false, _&&_, _||_}
 use mathlib.Core.List.{List, [], _∷_}
 use mathlib.Core.Logic.{⊎-elim}
-use mathlib.Core.Path.{_≡_, refl, sym, _∙_}
-use Prim.Native.Nat.{ℕ, zero, suc, _+_, _-_, _≤_, _<_}
+use mathlib.Core.Path.{_≡_, refl, _∙_}
+use Prim.Native.Nat.{ℕ, zero, suc, _+_, _-_, _≤_, _<_, max}
 use native.Mathlib.Nat.{eq-or-lt-of-le, le-of-suc-le-suc}
 use native.Mathlib.Numerals.{add-one}
 use native.Mathlib.Omega.{arith}
 use lib.Dec.{leb, eqb}
 use lib.ListN.{length, getD, take, drop}
-use borrow.Author.Tests.{lt-ltb, le-ltb, le-leb, leb-true, eqb-true, eq-eqb, ne-eqb}
+use borrow.Author.Tests.{lt-ltb, le-ltb, leb-true, eqb-true, eq-eqb, ne-eqb}
 use Rattle.meaning.specs.Interval.{End, upTo, noEnd, endOf, _+End_}
 use Rattle.meaning.specs.Sound.{lengthOf}
 use Rattle.rules.specs.Limits.{rowLimit}
@@ -24,19 +24,8 @@ use Rattle.monitor.specs.declared.record.Record.{Record}
 use Rattle.times.specs.Times.{timeLimit}
 use Rattle.monitor.specs.Record.{isTrue, wasSeen, clockOf, eventTime, heldAt, stretchAt}
 use Rattle.monitor.specs.Core.{heldOf, recordOf}
-use Rattle.monitor.specs.Soundness.{every, truthByte?, soundEntry?, soundLimits?, soundRow?, zeroPast?, soundTime?, sound?}
+use Rattle.monitor.specs.Soundness.{every, truthByte?, soundEntry?, soundLimits?, soundRow?, zeroPast?, soundTimes?, sound?}
 use Rattle.monitor.proofs.ReadyLaws.{Ready}
-
--- A time of 0 is within every limit.
-pub zero-told : (time limit : ℕ) → eqb time 0 ≡ (eqb time 0 && leb time limit)
-zero-told time limit = go (eqb time 0) refl
-  where
-    go : (answer : Bool) → eqb time 0 ≡ answer → answer ≡ (answer && leb time limit)
-    go true h =
-        let none : time ≡ 0 = eqb-true time 0 h in
-        let early : time ≤ limit = omega arith in
-        sym (le-leb time limit early)
-    go false h = refl
 
 -- One row that fails decides; one row more that passes.
 pub every-not : (n r : ℕ) (test : ℕ → Bool) → r < n → test r ≡ false → every n test ≡ false
@@ -76,17 +65,16 @@ part-told table store row {numbers} {from} {words} read place size =
     rw (e, size, read, place)
 
 pub row-told :
-    (table store : List ℕ) (found : Record) (row : ℕ) {numbers : Numbers} {from words last : ℕ} {answer : Bool}
+    (table store : List ℕ) (found : Record) (row : ℕ) {numbers : Numbers} {from words : ℕ} {answer : Bool}
     → numbers ≡ numbersAt table row
     → from ≡ offset table row
     → words ≡ width numbers
-    → eventTime found ≡ last
     → answer
     ≡ (soundEntry? (wasSeen found) (getD (found .truths) row 0) (getD (found .counts) row 0) numbers
-    && soundLimits? (take (from + words - from) (drop from store)) (heldAt found row) (clockOf found) last numbers)
+    && soundLimits? (take (from + words - from) (drop from store)) (heldAt found row) (clockOf found) (eventTime found) numbers)
     → answer ≡ soundRow? table store found row
 unfolding soundRow?
-row-told table store found row read place size dated told = told ∙ rw (part-told table store row read place size, read, dated)
+row-told table store found row read place size told = told ∙ rw (part-told table store row read place size, read)
 
 -- A sound entry's count is within the figure.
 pub entry-within : (seen : Bool) (truth count : ℕ) (numbers : Numbers) → soundEntry? seen truth count numbers ≡ true → count ≤ spansOf numbers
@@ -105,7 +93,7 @@ pub bare-sound : (words : List ℕ) (count clock last : ℕ) (numbers : Numbers)
     → soundLimits? words (heldOf count) clock last numbers ≡ true
 unfolding soundStretch? spansFrom zeros?
 bare-sound [] count clock last numbers size none =
-    rw (none, no-spans-sound clock (last + numbers .a) (lengthOf (numbers .a) (endOf (numbers .b))) (last +End endOf (numbers .b)))
+    rw (none, no-spans-sound clock (max clock (last + numbers .a)) (lengthOf (numbers .a) (endOf (numbers .b))) (last +End endOf (numbers .b)))
 bare-sound (word ∷ words) count clock last numbers size none = absurd (omega arith)
 
 -- Where a row's stretch ends, and that it does so within the store.
@@ -126,10 +114,10 @@ stretch-fits table size rows row ready lower read place said =
     rw (place, said, read) (omega (arith, ready .room))
 
 -- The rows by a count that is the table's.
-pub rows-counted : (table store : List ℕ) (seen clock count rows : ℕ) (truths counts : List ℕ) {answer : Bool} → count ≡ rows → rows ≡ rowsOf table
-    → answer ≡ every rows (soundRow? table store (recordOf seen clock rows truths counts))
-    → every (rowsOf table) (soundRow? table store (recordOf seen clock count truths counts)) ≡ answer
-rows-counted table store seen clock count rows truths counts same counted told = rw (told, ← counted, same)
+pub rows-counted : (table store : List ℕ) (seen clock last count rows : ℕ) (truths counts : List ℕ) {answer : Bool} → count ≡ rows → rows ≡ rowsOf table
+    → answer ≡ every rows (soundRow? table store (recordOf seen clock last rows truths counts))
+    → every (rowsOf table) (soundRow? table store (recordOf seen clock last count truths counts)) ≡ answer
+rows-counted table store seen clock last count rows truths counts same counted told = rw (told, ← counted, same)
 
 -- What stands past the rows of the table: nothing is asked of the rows themselves, and each later one decides by its truth, then by its count.
 module _ (rows : ℕ) (truths counts : List ℕ) where
@@ -150,27 +138,32 @@ module _ (rows : ℕ) (truths counts : List ℕ) where
     unfolding zeroPast?
     past-zero unset none = rw (le-ltb _ _ past, eq-eqb _ _ unset, eq-eqb _ _ none)
 
--- What a sound record gives: its row count is the table's, its clock is within the limit, and every row is sound.
+-- What a sound record gives: its row count is the table's, its times are in order and within the limit, and every row is sound.
 pub record SoundParts (table store : List ℕ) (found : Record) : Type 0 where
   pub counted : found .rows ≡ rowsOf table
-  pub early : clockOf found ≤ timeLimit
+  pub times : (eventTime found ≤ clockOf found) × (clockOf found ≤ timeLimit)
   pub rows : every (rowsOf table) (soundRow? table store found) ≡ true
 
-pub time-within : (seen time : ℕ) → soundTime? seen time ≡ true → time ≤ timeLimit
-time-within seen time h = leb-true _ _ (and-right (truthByte? seen && (isTrue seen || eqb time 0)) (leb time timeLimit) h)
+pub times-within : (seen clock event : ℕ) → soundTimes? seen clock event ≡ true → (event ≤ clock) × (clock ≤ timeLimit)
+times-within seen clock event h =
+    let three = and-left (truthByte? seen && leb event clock && leb clock timeLimit) (isTrue seen || eqb event 0) h in
+    let two = and-left (truthByte? seen && leb event clock) (leb clock timeLimit) three in (
+      leb-true _ _ (and-right (truthByte? seen) (leb event clock) two),
+      leb-true _ _ (and-right (truthByte? seen && leb event clock) (leb clock timeLimit) three),
+    )
 
 pub sound-parts : (table store : List ℕ) (found : Record) → sound? table store found ≡ true → SoundParts table store found
 unfolding sound?
 sound-parts table store found h =
     let count : Bool = eqb (found .rows) (rowsOf table) in
-    let timely : Bool = soundTime? (found .seen) (clockOf found) in
+    let timely : Bool = soundTimes? (found .seen) (clockOf found) (eventTime found) in
     let rows : Bool = every (rowsOf table) (soundRow? table store found) in
     let past : Bool = every rowLimit (zeroPast? (rowsOf table) (found .truths) (found .counts)) in
     let three = and-left (count && timely && rows) past h in
     let two = and-left (count && timely) rows three in
     record {
       counted = eqb-true _ _ (and-left count timely two);
-      early = time-within (found .seen) (clockOf found) (and-right count timely two);
+      times = times-within (found .seen) (clockOf found) (eventTime found) (and-right count timely two);
       rows = and-right (count && timely) rows three;
     }
 
@@ -181,11 +174,11 @@ module _ (table store : List ℕ) (found : Record) where
   unsound-count differ = rw (ne-eqb _ _ differ)
 
   module _ (count : found .rows ≡ rowsOf table) where
-    pub unsound-time : soundTime? (found .seen) (clockOf found) ≡ false → sound? table store found ≡ false
+    pub unsound-time : soundTimes? (found .seen) (clockOf found) (eventTime found) ≡ false → sound? table store found ≡ false
     unfolding sound?
     unsound-time late = rw (eq-eqb _ _ count, late)
 
-    module _ (timely : soundTime? (found .seen) (clockOf found) ≡ true) where
+    module _ (timely : soundTimes? (found .seen) (clockOf found) (eventTime found) ≡ true) where
       pub unsound-row : every (rowsOf table) (soundRow? table store found) ≡ false → sound? table store found ≡ false
       unfolding sound?
       unsound-row rows = rw (eq-eqb _ _ count, timely, rows)

@@ -2,16 +2,16 @@
 use mathlib.Core.Bool.{Bool, true, false, cond}
 use mathlib.Core.List.{List}
 use mathlib.Core.Option.{Option, none, some}
-use mathlib.Core.Path.{_≡_, refl, sym}
+use mathlib.Core.Path.{_≡_, refl, sym, ap}
 use Prim.Native.Nat.{ℕ, _-_, _≤_, _<_}
 use native.Mathlib.Omega.{arith}
 use lib.Dec.{leb}
 use lib.ListN.{length}
 use borrow.Author.Tests.{le-leb, lt-leb, leb-false}
 use Rattle.meaning.specs.FrameTime.{frameTime}
+use Rattle.meaning.specs.Heartbeat.{heartbeat?}
 use Rattle.rules.specs.Rows.{rowsOf}
 use Rattle.refusals.specs.Refusals.{Refused, refused, _orElse_}
-use Rattle.meaning.proofs.Truths.{zero-not-one}
 use Rattle.rules.specs.Table.{CheckReply, passed, refusedBy}
 use Rattle.refusals.specs.declared.refusal.Refusal.{Refusal}
 use Rattle.refusals.specs.declared.refusal.Refusal.the-variants.{Earlier, Late, Unsound}
@@ -23,9 +23,9 @@ use Rattle.times.specs.Times.{timeLimit}
 use Rattle.monitor.specs.Record.{truthAt, clockOf, eventTime}
 use Rattle.monitor.specs.Soundness.{sound?}
 use Rattle.monitor.specs.Ready.{readyOf, refusalIn}
-use Rattle.monitor.specs.Step.{Setup, setupOf, Call, event, frame, timeOf, unless, refusalOf, momentOf, verdict, refusal, outcomeBy, stepOf, said}
-use Rattle.monitor.specs.Event.{Moment, recordAfter}
-use Rattle.monitor.specs.Core.{withSound, fitOf, moment, AfterRows, LeftIn, recordLeft}
+use Rattle.monitor.specs.Step.{Setup, setupOf, Call, event, frame, timeOf, unless, refusalOf, momentOf, Reply, verdict, clockMoved, refusal, Outcome, outcomeBy, stepOf, said}
+use Rattle.monitor.specs.Event.{Moment, spansClipped, recordAfter}
+use Rattle.monitor.specs.Core.{withSound, fitOf, moment, SpansLeft, AfterRows, LeftIn, recordLeft}
 use Rattle.monitor.proofs.ReadyLaws.{ready-gives}
 use Rattle.monitor.proofs.SoundnessLaws.{sound-parts}
 
@@ -84,17 +84,13 @@ module _
     late over = rw (ready, sound, lt-leb _ _ over)
 
     module _ (early : timeOf (clockOf found) call ≤ timeLimit) where
-      pub earlier : {clock : ℕ} → clock ≡ clockOf found → timeOf (clockOf found) call < clock → refusalOf setup store found call ≡ some (refused Earlier)
+      pub earlier : timeOf (clockOf found) call < clockOf found → refusalOf setup store found call ≡ some (refused Earlier)
       unfolding refusalOf
-      earlier present fallen =
-          let below : timeOf (clockOf found) call < clockOf found = omega arith in
-          rw (ready, sound, le-leb _ _ early, lt-leb _ _ below)
+      earlier fallen = rw (ready, sound, le-leb _ _ early, lt-leb _ _ fallen)
 
-      pub unrefused : {clock : ℕ} → clock ≡ clockOf found → clock ≤ timeOf (clockOf found) call → refusalOf setup store found call ≡ none
+      pub unrefused : clockOf found ≤ timeOf (clockOf found) call → refusalOf setup store found call ≡ none
       unfolding refusalOf
-      unrefused present risen =
-          let above : clockOf found ≤ timeOf (clockOf found) call = omega arith in
-          rw (ready, sound, le-leb _ _ early, le-leb _ _ above)
+      unrefused risen = rw (ready, sound, le-leb _ _ early, le-leb _ _ risen)
 
 -- A frame is the event at its time; where the clock is over the limit the record is not sound, and the event at any time is refused alike.
 frame-is-event : (setup : Setup) (store : List ℕ) (found : Record) (counter mask : ℕ)
@@ -106,7 +102,7 @@ over-unsound : (table store : List ℕ) (found : Record) → timeLimit < clockOf
 over-unsound table store found over = go (sound? table store found) refl
   where
     go : (answer : Bool) → sound? table store found ≡ answer → answer ≡ false
-    go true h = absurd (omega (arith, sound-parts table store found h .early))
+    go true h = absurd (omega (arith, sound-parts table store found h .times))
     go false h = refl
 
 refused-alike : (setup : Setup) (store : List ℕ) (found : Record) (m other : Moment) (first : Option Refused) (fault : Refused)
@@ -131,38 +127,83 @@ frame-at setup store found counter mask = go (leb (clockOf found) timeLimit) ref
 pub left-accepted : (table store : List ℕ) (found : Record) (time mask rows : ℕ) (truths counts after : List ℕ)
     → refusalOf (setupOf table) store found (event time mask) ≡ none
     → rows ≡ rowsOf table
+    → heartbeat? mask ≡ false
     → AfterRows (moment table store found time mask) rows truths counts after
     → LeftIn (stepOf (setupOf table) store found (event time mask)) (Answer.Verdict (truthAt truths (rows - 1))) truths counts after
 unfolding stepOf recordAfter
-left-accepted table store found time mask rows truths counts after h counted done =
+left-accepted table store found time mask rows truths counts after h counted no-beat done =
     record {
-      replied = rw (h, done .truths-are, counted);
-      truths-are = rw (h, done .truths-are, counted);
-      counts-are = rw (h, done .counts-are, counted);
-      store-is = rw (h, done .store-is, counted);
+      replied = rw (h, no-beat, done .truths-are, counted);
+      truths-are = rw (h, no-beat, done .truths-are, counted);
+      counts-are = rw (h, no-beat, done .left .counts-are, counted);
+      store-is = rw (h, no-beat, done .left .store-is, counted);
     }
 
--- The record that is given beside the answer is the outcome's.
-not-both : {holds : Bool} {fault : Refused} → ¬ (verdict holds ≡ refusal fault)
-not-both same = zero-not-one cc
+-- An accepted heartbeat leaves the truths, and the spans clipped at its time.
+pub left-moved : (table store : List ℕ) (found : Record) (time mask rows : ℕ) (counts after : List ℕ)
+    → refusalOf (setupOf table) store found (event time mask) ≡ none
+    → rows ≡ rowsOf table
+    → heartbeat? mask ≡ true
+    → SpansLeft table store (found .counts) (spansClipped table store (found .counts) time) rows counts after
+    → LeftIn (stepOf (setupOf table) store found (event time mask)) Answer.ClockMoved (found .truths) counts after
+unfolding stepOf recordAfter
+left-moved table store found time mask rows counts after h counted beat done =
+    record {
+      replied = rw (h, beat);
+      truths-are = rw (h, beat);
+      counts-are = rw (h, beat, done .counts-are, counted);
+      store-is = rw (h, beat, done .store-is, counted);
+    }
+
+-- The record that is given beside the answer is the outcome's. No two of the three cases of a reply are one.
+replyNumber : Reply → ℕ
+replyNumber (verdict holds) = 0
+replyNumber clockMoved = 1
+replyNumber (refusal fault) = 2
+
+clash : {A : Type 0} {reply other : Reply} → ¬ (replyNumber reply ≡ replyNumber other) → reply ≡ other → A
+clash differ same = absurd (differ (ap replyNumber same))
 
 module _ (setup : Setup) (store : List ℕ) (found : Record) (time mask : ℕ) where
   abbrev arrived : Arrival
-  arrived = record { time = time; mask = mask; seen = found .seen; last = eventTime found }
+  arrived = record { time = time; mask = mask; clock = clockOf found; seen = found .seen; last = eventTime found }
 
-  module _ {truths counts after : List ℕ} where
-    given-by : (o : Option Refused) (answer : Answer)
-        → LeftIn (outcomeBy setup store found (momentOf setup store found (event time mask)) o) answer truths counts after
-        → record { reply = said answer; left = recordLeft answer arrived (clockOf found) (found .rows) truths counts; store = after }
-        ≡ outcomeBy setup store found (momentOf setup store found (event time mask)) o
-    unfolding recordAfter
-    given-by none (Answer.Verdict holds) left = rw (left .replied, left .truths-are, left .counts-are, left .store-is)
-    given-by none (Answer.Refused fault) left = absurd (not-both (sym (left .replied)))
-    given-by (some fault) (Answer.Verdict holds) left = absurd (not-both (left .replied))
-    given-by (some fault) (Answer.Refused other) left = rw (left .replied, left .truths-are, left .counts-are, left .store-is)
+  abbrev met : Moment
+  met = momentOf setup store found (event time mask)
+
+  module _ (truths counts after : List ℕ) where
+    abbrev given : Answer → Outcome
+    given answer = record { reply = said answer; left = recordLeft answer arrived (found .rows) truths counts; store = after }
+
+    -- By what is answered: an event's or a heartbeat's mask, then a refusal.
+    accepted-by : (beat : Bool) → heartbeat? mask ≡ beat → (answer : Answer)
+        → LeftIn (outcomeBy setup store found met none) answer truths counts after
+        → given answer ≡ outcomeBy setup store found met none
+    unfolding recordAfter replyNumber
+    accepted-by false told (Answer.Verdict holds) left =
+        rw told
+        (rw (rw told at (left .replied), rw told at (left .truths-are), rw told at (left .counts-are), rw told at (left .store-is)))
+    accepted-by false told Answer.ClockMoved left = clash (λ same. omega arith) (rw told at (left .replied))
+    accepted-by false told (Answer.Refused fault) left = clash (λ same. omega arith) (rw told at (left .replied))
+    accepted-by true told (Answer.Verdict holds) left = clash (λ same. omega arith) (rw told at (left .replied))
+    accepted-by true told Answer.ClockMoved left =
+        rw told (rw (rw told at (left .truths-are), rw told at (left .counts-are), rw told at (left .store-is)))
+    accepted-by true told (Answer.Refused fault) left = clash (λ same. omega arith) (rw told at (left .replied))
+
+    refused-by : (fault : Refused) (answer : Answer)
+        → LeftIn (outcomeBy setup store found met (some fault)) answer truths counts after
+        → given answer ≡ outcomeBy setup store found met (some fault)
+    unfolding replyNumber
+    refused-by fault (Answer.Verdict holds) left = clash (λ same. omega arith) (left .replied)
+    refused-by fault Answer.ClockMoved left = clash (λ same. omega arith) (left .replied)
+    refused-by fault (Answer.Refused other) left = rw (left .replied, left .truths-are, left .counts-are, left .store-is)
+
+    given-by : (o : Option Refused) (answer : Answer) → LeftIn (outcomeBy setup store found met o) answer truths counts after
+        → given answer ≡ outcomeBy setup store found met o
+    given-by none answer left = accepted-by (heartbeat? mask) refl answer left
+    given-by (some fault) answer left = refused-by fault answer left
 
     pub step-given : (answer : Answer) → LeftIn (stepOf setup store found (event time mask)) answer truths counts after
-        → record { reply = said answer; left = recordLeft answer arrived (clockOf found) (found .rows) truths counts; store = after }
-        ≡ stepOf setup store found (event time mask)
+        → given answer ≡ stepOf setup store found (event time mask)
     unfolding stepOf
     step-given answer left = given-by (refusalOf setup store found (event time mask)) answer left

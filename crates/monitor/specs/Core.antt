@@ -1,14 +1,14 @@
--- What the private functions of src/event, src/soundness and src/step ask and leave. No public contract cites this file.
+-- What the private functions of src/event, src/heartbeat, src/soundness and src/step ask and leave. No public contract cites this file.
 use mathlib.Core.Bool.{Bool, true, cond}
 use mathlib.Core.List.{List, _++_}
 use mathlib.Core.Option.{none}
 use mathlib.Core.Path.{_≡_}
 use Prim.Native.Nat.{ℕ, _+_, _*_, _-_, _^_, _≤_, _<_}
 use lib.ListN.{length, take, drop}
-use Rattle.meaning.specs.Spans.{Span, update}
+use Rattle.meaning.specs.Spans.{Span, clip, update}
 use Rattle.rules.specs.Limits.{rowLimit}
-use Rattle.rules.specs.Rows.{ruleOf}
-use Rattle.rules.specs.Stretches.{spansOf, width}
+use Rattle.rules.specs.Rows.{numbersAt, ruleOf}
+use Rattle.rules.specs.Stretches.{spansOf, width, offset}
 use Rattle.refusals.specs.Refusals.{refused}
 use Rattle.rules.specs.Table.{CheckReply, passed, refusedBy}
 use Rattle.rules.specs.declared.numbers.Numbers.{Numbers}
@@ -23,10 +23,10 @@ use Rattle.monitor.specs.declared.answer.Answer.the-variants as Answer
 use Rattle.monitor.specs.declared.event.Arrival.{Arrival}
 use Rattle.monitor.specs.declared.event.Judgement.{Judgement}
 use Rattle.times.specs.Times.{timeLimit}
-use Rattle.monitor.specs.Record.{byteOf}
+use Rattle.monitor.specs.Record.{byteOf, heldIn, stretchAt}
 use Rattle.monitor.specs.Soundness.{sound?}
 use Rattle.monitor.specs.Ready.{readyOf}
-use Rattle.monitor.specs.Event.{Moment, spansBy, truthBy, truthsAfter, countsAfter, storeAfter}
+use Rattle.monitor.specs.Event.{Moment, spansBy, truthBy, truthsAfter, spansJudged, countsWith, storeWith}
 use Rattle.monitor.specs.Step.{setupOf, event, refusalOf, Outcome, stepOf, said}
 
 -- 7, "record not sound", after refusals 1 to 4.
@@ -41,22 +41,24 @@ fitOf table store found = withSound (sound? table store found) (readyOf table (l
 abbrev pub heldOf : ℕ → Held
 heldOf count = record { count = count }
 
-abbrev pub recordOf : (seen time rows : ℕ) (truths counts : List ℕ) → Record
-recordOf seen time rows truths counts = record { seen = seen; time = time; rows = rows; truths = truths; counts = counts }
+abbrev pub recordOf : (seen clock last rows : ℕ) (truths counts : List ℕ) → Record
+recordOf seen clock last rows truths counts =
+    record { seen = seen; clock = clock; last = last; rows = rows; truths = truths; counts = counts }
 
 abbrev pub moment : (table store : List ℕ) → Record → (time mask : ℕ) → Moment
 moment table store found time mask = record { table = table; store = store; found = found; time = time; mask = mask }
 
--- The record that an event met, which is lent in parts: whether one was seen, and when, beside the event; the row count and the two arrays.
+-- The record that a call met, which is lent in parts: the clock, and whether and when an event was seen, beside the call; the row count and the two arrays.
 abbrev pub recordMet : Arrival → (rows : ℕ) (truths counts : List ℕ) → Record
-recordMet e rows truths counts = recordOf (e .seen) (e .last) rows truths counts
+recordMet e rows truths counts = recordOf (e .seen) (e .clock) (e .last) rows truths counts
 
--- The event at it as a moment, its outcome, and that nothing refuses it.
+-- The call at it as a moment, its outcome, and that nothing refuses it.
 abbrev pub momentMet : (table store : List ℕ) → Arrival → (rows : ℕ) (truths counts : List ℕ) → Moment
 momentMet table store e rows truths counts = moment table store (recordMet e rows truths counts) (e .time) (e .mask)
 
 abbrev pub outcomeMet : (table store : List ℕ) → Arrival → (rows : ℕ) (truths counts : List ℕ) → Outcome
-outcomeMet table store e rows truths counts = stepOf (setupOf table) store (recordMet e rows truths counts) (event (e .time) (e .mask))
+outcomeMet table store e rows truths counts =
+    stepOf (setupOf table) store (recordMet e rows truths counts) (event (e .time) (e .mask))
 
 abbrev pub Unrefused : (table store : List ℕ) → Arrival → (rows : ℕ) (truths counts : List ℕ) → Type 0
 Unrefused table store e rows truths counts =
@@ -87,11 +89,31 @@ pub record UpdatedIn (from end : ℕ) (store : List ℕ) (held : Held) (keep fee
   pub counted : updated .held .count ≡ length (updateIn from end store held keep feed time span)
   pub told : updated .covered ≡ covered time (updateIn from end store held keep feed time span)
 
--- The arrays and the store after the rows below n.
+-- A stretch that lies within the store and lays out its spans was clipped at a time: its words are those of its spans then, and no other word changed.
+pub record ClipReady (from end : ℕ) (store : List ℕ) (held : Held) : Type 0 where
+  pub order : from ≤ end
+  pub inside : end ≤ length store
+  pub laid : Packed (stretchIn from end store) held
+
+pub record ClippedIn (from end : ℕ) (store : List ℕ) (held : Held) (time left : ℕ) (after : List ℕ) : Type 0 where
+  pub written : after ≡ withStretch from end store (packed (end - from) (clip time (spansHeld (stretchIn from end store) held)))
+  pub counted : left ≡ length (clip time (spansHeld (stretchIn from end store) held))
+
+-- The counts and the store where the rows below n have such spans.
+pub record SpansLeft (table store counts : List ℕ) (spans : ℕ → List Span) (n : ℕ) (countsNow storeNow : List ℕ) : Type 0 where
+  pub counts-are : countsNow ≡ countsWith spans counts n
+  pub store-is : storeNow ≡ storeWith table store spans n
+
+-- The rows can be clipped: there are no more than the arrays have, each one's stretch lies within the store and lays out its spans.
+pub record RowsLaid (table store counts : List ℕ) (rows : ℕ) : Type 0 where
+  pub few : rows ≤ rowLimit
+  pub inside : (row : ℕ) → row < rows → offset table row + width (numbersAt table row) ≤ length store
+  pub laid : (row : ℕ) → row < rows → Packed (stretchAt table store row) (heldIn counts row)
+
+-- The arrays and the store after an event's rows below n.
 pub record AfterRows (m : Moment) (n : ℕ) (truths counts store : List ℕ) : Type 0 where
   pub truths-are : truths ≡ truthsAfter m n
-  pub counts-are : counts ≡ countsAfter m n
-  pub store-is : store ≡ storeAfter m n
+  pub left : SpansLeft (m .table) (m .store) (m .found .counts) (spansJudged m) n counts store
 
 -- The spans of a row whose stretch begins at a word, after the event.
 abbrev pub spansAfterIn : (store : List ℕ) (from : ℕ) → Numbers → Held → Arrival → (truths : List ℕ) → List Span
@@ -124,6 +146,7 @@ pub record LeftIn (o : Outcome) (answer : Answer) (truths counts store : List �
   pub store-is : store ≡ o .store
 
 -- The record that is given beside an answer.
-abbrev pub recordLeft : Answer → Arrival → (clock rows : ℕ) (truths counts : List ℕ) → Record
-recordLeft (Answer.Verdict holds) e clock rows truths counts = recordOf (byteOf true) (e .time) rows truths counts
-recordLeft (Answer.Refused fault) e clock rows truths counts = recordOf (e .seen) clock rows truths counts
+abbrev pub recordLeft : Answer → Arrival → (rows : ℕ) (truths counts : List ℕ) → Record
+recordLeft (Answer.Verdict holds) e rows truths counts = recordOf (byteOf true) (e .time) (e .time) rows truths counts
+recordLeft Answer.ClockMoved e rows truths counts = recordOf (e .seen) (e .time) (e .last) rows truths counts
+recordLeft (Answer.Refused fault) e rows truths counts = recordOf (e .seen) (e .clock) (e .last) rows truths counts

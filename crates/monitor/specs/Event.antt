@@ -1,23 +1,25 @@
--- One event, rows rising, from what was found (document 01, "Spans, store and record": "One event at t, rows rising ..").
-use mathlib.Core.Bool.{Bool, true, not, _&&_, _||_}
+-- One event, rows rising, from what was found (document 01, "Spans, store and record": "One event at t, rows rising .."); and a heartbeat, which "only
+-- moves the clock" (document 02, E2).
+use mathlib.Core.Bool.{Bool, true, cond, not, _&&_, _||_}
 use mathlib.Core.List.{List, [], _++_}
 use Prim.Native.Nat.{ℕ, zero, suc}
 use lib.ListN.{length, drop, set}
 use Rattle.meaning.specs.Interval.{endOf}
 use Rattle.meaning.specs.Computed.{within?, bitSet?}
-use Rattle.meaning.specs.Spans.{Span, reachedFrom, update}
+use Rattle.meaning.specs.Heartbeat.{heartbeat?}
+use Rattle.meaning.specs.Spans.{Span, reachedFrom, clip, update}
 use Rattle.rules.specs.Kinds.{Rule, plain, stretch}
 use Rattle.rules.specs.declared.plain.Plain.the-variants as Plain
 use Rattle.rules.specs.Rows.{rowsOf, numbersAt, ruleOf, keptBy, taken, fedBy}
 use Rattle.rules.specs.Stretches.{width, offset}
 use Rattle.rules.specs.declared.numbers.Numbers.{Numbers}
-use Rattle.spans.specs.Layout.{packed}
+use Rattle.spans.specs.Layout.{packed, spansHeld}
 use Rattle.spans.specs.Stretch.{covered}
 use Rattle.monitor.specs.declared.record.Record.{Record}
 use Rattle.monitor.specs.declared.event.Arrival.{Arrival}
-use Rattle.monitor.specs.Record.{byteOf, isTrue, truthAt, eventTime, spansFound}
+use Rattle.monitor.specs.Record.{byteOf, isTrue, truthAt, clockOf, eventTime, heldIn, stretchAt, spansFound}
 
--- An event, and what it meets: the table, the store and the record as they were found.
+-- An event or a heartbeat, and what it meets: the table, the store and the record as they were found.
 pub record Moment : Type 0 where
   pub table : List ℕ
   pub store : List ℕ
@@ -25,9 +27,9 @@ pub record Moment : Type 0 where
   pub time : ℕ
   pub mask : ℕ
 
--- The event beside what the record tells of the one before it.
+-- The event beside what the record tells of those before it.
 abbrev pub arrivalOf : Moment → Arrival
-arrivalOf m = record { time = m .time; mask = m .mask; seen = m .found .seen; last = eventTime (m .found) }
+arrivalOf m = record { time = m .time; mask = m .mask; clock = clockOf (m .found); seen = m .found .seen; last = eventTime (m .found) }
 
 -- "a since row's spans are clipped at t and ended ones dropped, then all dropped if x is now false, then t+a to t+b is joined in if y is true";
 -- what keeps and what feeds, by the kind's columns and the truths of the lower rows at this event. A row without a stretch holds no spans.
@@ -65,28 +67,44 @@ unfoldable pub truthsAfter : Moment → ℕ → List ℕ
 truthsAfter m zero = m .found .truths
 truthsAfter m (suc n) = set (truthsAfter m n) n (byteOf (truthOf m n (truthsAfter m n)))
 
--- The spans of a row after the event; the span counts, and the words, after the rows below n, the others as found.
+-- The spans of a row after an event; after a heartbeat, "spans are clipped at its time".
+abbrev pub spansJudged : Moment → ℕ → List Span
+spansJudged m row = spansAfter m row (truthsAfter m row)
+
+abbrev pub spansClipped : (table store counts : List ℕ) (time : ℕ) → ℕ → List Span
+spansClipped table store counts time row = clip time (spansHeld (stretchAt table store row) (heldIn counts row))
+
+-- What a heartbeat leaves, and what an event makes.
+abbrev pub heartbeatElse : {A : Type 0} → Moment → (heartbeat event : A) → A
+heartbeatElse m heartbeat event = cond (heartbeat? (m .mask)) heartbeat event
+
 abbrev pub spansNow : Moment → ℕ → List Span
-spansNow m row = spansAfter m row (truthsAfter m row)
+spansNow m = heartbeatElse m (spansClipped (m .table) (m .store) (m .found .counts) (m .time)) (spansJudged m)
 
-unfoldable pub countsAfter : Moment → ℕ → List ℕ
-countsAfter m zero = m .found .counts
-countsAfter m (suc n) = set (countsAfter m n) n (length (spansNow m n))
+-- Where each row has such spans: the span counts, and the words, after the rows below n, the others as found.
+unfoldable pub countsWith : (ℕ → List Span) → (counts : List ℕ) → ℕ → List ℕ
+countsWith spans counts zero = counts
+countsWith spans counts (suc n) = set (countsWith spans counts n) n (length (spans n))
 
-unfoldable pub wordsDone : Moment → ℕ → List ℕ
-wordsDone m zero = []
-wordsDone m (suc n) = wordsDone m n ++ packed (width (numbersAt (m .table) n)) (spansNow m n)
+unfoldable pub wordsDone : (table : List ℕ) → (ℕ → List Span) → ℕ → List ℕ
+wordsDone table spans zero = []
+wordsDone table spans (suc n) = wordsDone table spans n ++ packed (width (numbersAt table n)) (spans n)
 
-unfoldable pub storeAfter : Moment → ℕ → List ℕ
-storeAfter m n = wordsDone m n ++ drop (offset (m .table) n) (m .store)
+unfoldable pub storeWith : (table store : List ℕ) → (ℕ → List Span) → ℕ → List ℕ
+storeWith table store spans n = wordsDone table spans n ++ drop (offset table n) store
 
--- The record after all rows.
+-- The record after all rows: the clock is at the time; "truths stay those of the last true event" at a heartbeat, and so does when that was.
 unfoldable pub recordAfter : Moment → Record
 recordAfter m =
     record {
-      seen = byteOf true;
-      time = m .time;
+      seen = heartbeatElse m (m .found .seen) (byteOf true);
+      clock = m .time;
+      last = heartbeatElse m (eventTime (m .found)) (m .time);
       rows = m .found .rows;
-      truths = truthsAfter m (rowsOf (m .table));
-      counts = countsAfter m (rowsOf (m .table));
+      truths = heartbeatElse m (m .found .truths) (truthsAfter m (rowsOf (m .table)));
+      counts = countsWith (spansNow m) (m .found .counts) (rowsOf (m .table));
     }
+
+-- The store after them.
+abbrev pub storeAfter : Moment → List ℕ
+storeAfter m = storeWith (m .table) (m .store) (spansNow m) (rowsOf (m .table))

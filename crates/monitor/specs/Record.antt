@@ -19,23 +19,27 @@ byteOf truth = cond truth 1 0
 abbrev pub isTrue : ℕ → Bool
 isTrue byte = eqb byte 1
 
--- "The record holds: whether an event was seen, .., each row's truth at it, and each row's span count."
+-- "The record holds: whether an event was seen, .., each row's truth at it, and each row's span count." A heartbeat is not seen as an event.
 abbrev pub wasSeen : Record → Bool
 wasSeen found = isTrue (found .seen)
 
 abbrev pub truthAt : List ℕ → ℕ → Bool
 truthAt truths row = isTrue (getD truths row 0)
 
--- The record's time by its two meanings, which are one time: the clock, before which nothing is accepted any more and from which spans are held, and
--- the time of the last event, from which ages are counted.
+-- "the record keeps both times" (document 02, E2): the clock, before which nothing is accepted any more and from which spans are held, and the time of
+-- the last true event, from which ages are counted.
 abbrev pub clockOf : Record → ℕ
-clockOf found = found .time
+clockOf found = found .clock
 
 abbrev pub eventTime : Record → ℕ
-eventTime found = found .time
+eventTime found = found .last
+
+-- What is held of a row's stretch beside its words, by the span counts.
+abbrev pub heldIn : List ℕ → ℕ → Held
+heldIn counts row = record { count = getD counts row 0 }
 
 abbrev pub heldAt : Record → ℕ → Held
-heldAt found row = record { count = getD (found .counts) row 0 }
+heldAt found row = heldIn (found .counts) row
 
 -- A row's own stretch of the store, and the spans found in it.
 unfoldable pub stretchAt : List ℕ → List ℕ → ℕ → List ℕ
@@ -44,6 +48,6 @@ stretchAt table store row = take (width (numbersAt table row)) (drop (offset tab
 abbrev pub spansFound : List ℕ → List ℕ → Record → ℕ → List Span
 spansFound table store found row = spansHeld (stretchAt table store row) (heldAt found row)
 
--- A record with nothing seen, of so many rows: what a good start gives. With 0 rows it is all zero.
+-- A record with nothing seen and the clock at 0, of so many rows: what a good start gives. With 0 rows it is all zero.
 unfoldable pub nothingSeen : ℕ → Record
-nothingSeen rows = record { seen = 0; time = 0; rows = rows; truths = replicate rowLimit 0; counts = replicate rowLimit 0 }
+nothingSeen rows = record { seen = 0; clock = 0; last = 0; rows = rows; truths = replicate rowLimit 0; counts = replicate rowLimit 0 }

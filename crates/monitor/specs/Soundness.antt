@@ -1,8 +1,8 @@
--- When record and store are sound for a table (document 01, "A record is sound when all of these hold"), computed row by row. That the test tells
--- exactly document 01's conditions is `record-told` of the promises.
+-- When record and store are sound for a table (document 01, "A record is sound when all of these hold", with the two times of document 02, E2), computed
+-- row by row. That the test tells exactly the documents' conditions is `record-told` of the promises.
 use mathlib.Core.Bool.{Bool, true, _&&_, _||_}
 use mathlib.Core.List.{List}
-use Prim.Native.Nat.{ℕ, zero, suc, _+_}
+use Prim.Native.Nat.{ℕ, zero, suc, _+_, max}
 use lib.Dec.{leb, ltb, eqb}
 use lib.ListN.{getD}
 use Rattle.meaning.specs.Interval.{endOf, _+End_}
@@ -31,10 +31,11 @@ truthByte? byte = leb byte 1
 abbrev pub soundEntry? : (seen : Bool) (truth count : ℕ) → Numbers → Bool
 soundEntry? seen truth count numbers = truthByte? truth && leb count (spansOf numbers) && (seen || (eqb truth 0 && eqb count 0))
 
--- "in each stretch: ..": firsts from the clock on, the latest first and last by the last event's time.
+-- "in each stretch: ..": "firsts are not below the clock, and lasts not above event time + b (for 'no end', first from clock to the greater of clock and
+-- event time + a ..)".
 abbrev pub soundLimits? : List ℕ → Held → (clock event : ℕ) → Numbers → Bool
 soundLimits? words held clock event numbers =
-    soundStretch? words held clock (event + numbers .a) (event +End endOf (numbers .b)) (lengthOf (numbers .a) (endOf (numbers .b)))
+    soundStretch? words held clock (max clock (event + numbers .a)) (event +End endOf (numbers .b)) (lengthOf (numbers .a) (endOf (numbers .b)))
 
 unfoldable pub soundRow? : List ℕ → List ℕ → Record → ℕ → Bool
 soundRow? table store found row =
@@ -45,14 +46,14 @@ soundRow? table store found row =
 unfoldable pub zeroPast? : (rows : ℕ) (truths counts : List ℕ) → ℕ → Bool
 zeroPast? rows truths counts row = ltb row rows || (eqb (getD truths row 0) 0 && eqb (getD counts row 0) 0)
 
--- "if no event was seen, time .. 0"; "time is at most 281,474,976,710,655".
-abbrev pub soundTime? : (seen time : ℕ) → Bool
-soundTime? seen time = truthByte? seen && (isTrue seen || eqb time 0) && leb time timeLimit
+-- "the event time is at most the clock, the clock within the time limit"; before any event its time is 0, and the clock any that is within.
+abbrev pub soundTimes? : (seen clock event : ℕ) → Bool
+soundTimes? seen clock event = truthByte? seen && leb event clock && leb clock timeLimit && (isTrue seen || eqb event 0)
 
--- "its row count is the table's"; then the time, each row of the table, and what stands past them.
+-- "its row count is the table's"; then the times, each row of the table, and what stands past them.
 unfoldable pub sound? : List ℕ → List ℕ → Record → Bool
 sound? table store found =
     eqb (found .rows) (rowsOf table)
-    && soundTime? (found .seen) (clockOf found)
+    && soundTimes? (found .seen) (clockOf found) (eventTime found)
     && every (rowsOf table) (soundRow? table store found)
     && every rowLimit (zeroPast? (rowsOf table) (found .truths) (found .counts))

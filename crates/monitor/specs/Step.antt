@@ -1,4 +1,5 @@
--- One call, an event or a frame: what it answers and what it leaves, for every input (document 01, "Refusal numbers" and "Lines from the board").
+-- One call, an event or a frame, a heartbeat or not: what it answers and what it leaves, for every input (document 01, "Refusal numbers" and "Lines from
+-- the board"; document 02, E2).
 use mathlib.Core.Bool.{Bool, true, false, cond}
 use mathlib.Core.List.{List}
 use mathlib.Core.Option.{Option, none, some}
@@ -21,7 +22,7 @@ use Rattle.times.specs.Times.{timeLimit}
 use Rattle.monitor.specs.Record.{truthAt, clockOf}
 use Rattle.monitor.specs.Soundness.{sound?}
 use Rattle.monitor.specs.Ready.{readyOf, refusalIn}
-use Rattle.monitor.specs.Event.{Moment, storeAfter, recordAfter}
+use Rattle.monitor.specs.Event.{Moment, heartbeatElse, storeAfter, recordAfter}
 
 -- What is judged by: today the table alone.
 pub record Setup : Type 0 where
@@ -35,7 +36,7 @@ pub data Call : Type 0 where
   event : (time mask : ℕ) → Call
   frame : (counter mask : ℕ) → Call
 
--- Its time by the clock, which is the last event's time (0 before any).
+-- Its time by the clock, which is the time of the last accepted call, a heartbeat's too (0 before any).
 abbrev pub timeOf : ℕ → Call → ℕ
 timeOf clock (event time mask) = time
 timeOf clock (frame counter mask) = frameTime clock counter
@@ -53,7 +54,8 @@ abbrev pub unless : Bool → Refusal → Option Refused
 unless true refusal = none
 unless false refusal = some (refused refusal)
 
--- "an event uses 1 to 4, then 7, 6, 5": "record not sound", "time over 281,474,976,710,655", "time below the last event's", which is the clock.
+-- "an event uses 1 to 4, then 7, 6, 5": "record not sound", "time over 281,474,976,710,655", time below the clock ("Refusal 5 and line times compare with
+-- the clock"). A heartbeat is refused like any call.
 unfoldable pub refusalOf : Setup → List ℕ → Record → Call → Option Refused
 refusalOf setup store found call =
     refusalIn (readyOf (setup .table) (length store))
@@ -61,22 +63,19 @@ refusalOf setup store found call =
     orElse unless (leb (timeOf (clockOf found) call) timeLimit) Late
     orElse unless (leb (clockOf found) (timeOf (clockOf found) call)) Earlier
 
--- The call as a moment, for the one-event rules.
+-- The call as a moment.
 abbrev pub momentOf : Setup → List ℕ → Record → Call → Moment
 momentOf setup store found call =
     record { table = setup .table; store = store; found = found; time = timeOf (clockOf found) call; mask = maskOf call }
-
--- The store after an accepted call; the record is `recordAfter`.
-abbrev pub storeOf : Moment → List ℕ
-storeOf m = storeAfter m (rowsOf (m .table))
 
 -- "the last is the formula judged".
 abbrev pub verdictOf : Setup → List ℕ → Bool
 verdictOf setup truths = truthAt truths (rowsOf (setup .table) - 1)
 
--- "the answer is either a verdict or a numbered refusal", and the record and the store that stand beside it.
+-- "the answer is either a verdict or a numbered refusal", or "a third one, 'clock moved'"; and the record and the store that stand beside it.
 pub data Reply : Type 0 where
   verdict : Bool → Reply
+  clockMoved : Reply
   refusal : Refused → Reply
 
 pub record Outcome : Type 0 where
@@ -84,11 +83,14 @@ pub record Outcome : Type 0 where
   pub left : Record
   pub store : List ℕ
 
+abbrev pub acceptedReply : Setup → Moment → Reply
+acceptedReply setup m = heartbeatElse m clockMoved (verdict (verdictOf setup (recordAfter m .truths)))
+
 -- "refusal gives back the record given and leaves the store".
 abbrev pub outcomeBy : Setup → List ℕ → Record → Moment → Option Refused → Outcome
 outcomeBy setup store found m (some fault) = record { reply = refusal fault; left = found; store = store }
 outcomeBy setup store found m none =
-    record { reply = verdict (verdictOf setup (recordAfter m .truths)); left = recordAfter m; store = storeOf m }
+    record { reply = acceptedReply setup m; left = recordAfter m; store = storeAfter m }
 
 unfoldable pub stepOf : Setup → List ℕ → Record → Call → Outcome
 stepOf setup store found call =
@@ -97,6 +99,7 @@ stepOf setup store found call =
 -- What an answer says, with the record beside it and the store at exit.
 abbrev pub said : Answer → Reply
 said (Answer.Verdict holds) = verdict holds
+said Answer.ClockMoved = clockMoved
 said (Answer.Refused fault) = refusal (refused fault)
 
 abbrev pub saidStep : Judged → List ℕ → Outcome
@@ -106,18 +109,18 @@ saidStep judged store = record { reply = said (judged .answer); left = judged .r
 abbrev pub StepGives : Setup → (store : List ℕ) → Record → Call → Judged → (after : List ℕ) → Type 0
 StepGives setup store found call judged after = saidStep judged after ≡ stepOf setup store found call
 
--- "Asked for alone, with a last time over 281,474,976,710,655, the time is refused 6."
+-- "Asked for alone, with a last time over 281,474,976,710,655, the time is refused 6"; the last time is the clock.
 pub data TimeReply : Type 0 where
   at : ℕ → TimeReply
   notAt : Refused → TimeReply
 
 unfoldable pub frameTimeOf : ℕ → ℕ → TimeReply
-frameTimeOf last counter = cond (leb last timeLimit) (at (frameTime last counter)) (notAt (refused Late))
+frameTimeOf clock counter = cond (leb clock timeLimit) (at (frameTime clock counter)) (notAt (refused Late))
 
 abbrev pub saidTime : Timed → TimeReply
 saidTime (Timed.At time) = at time
 saidTime (Timed.Refused fault) = notAt (refused fault)
 
 -- What `frame_time` promises.
-abbrev pub TimeGives : (last counter : ℕ) → Timed → Type 0
-TimeGives last counter timed = saidTime timed ≡ frameTimeOf last counter
+abbrev pub TimeGives : (clock counter : ℕ) → Timed → Type 0
+TimeGives clock counter timed = saidTime timed ≡ frameTimeOf clock counter

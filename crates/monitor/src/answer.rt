@@ -3,9 +3,10 @@
 use crate::record::Record;
 use refusals::refusal::Refusal;
 
-// The answer to an event: the verdict, or a refusal with its number and row.
+// The answer to a call: an event's verdict, that a heartbeat moved the clock, or a refusal with its number and row.
 pub enum Answer {
     Verdict(bool),
+    ClockMoved,
     Refused(Refusal),
 }
 

@@ -4,7 +4,6 @@
 use crate::reached::last_reached;
 use crate::record::byte_of;
 use crate::record::truth_at;
-use rules::limits::MASK_BITS;
 use rules::limits::ROW_LIMIT;
 use rules::numbers::Numbers;
 use rules::numbers::numbers_at;
@@ -17,12 +16,12 @@ use spans::stretch::Held;
 use spans::stretch::Updated;
 use spans::stretch::update;
 use times::interval::within;
+use times::mask::bit_set;
 use times::time::wide;
 ghost use mathlib.Core.Bool.{true, false, not, _&&_, _||_};
 ghost use mathlib.Core.List.{List};
 ghost use mathlib.Core.Path.{_≡_};
-ghost use Prim.Native.Nat.{_≤_, _<_, _/_, _%_, _^_};
-ghost use lib.Dec.{eqb};
+ghost use Prim.Native.Nat.{_≤_, _<_};
 ghost use Rattle.meaning.specs.Interval.{endOf};
 ghost use Rattle.meaning.specs.Spans.{Span, _to_, reachedFrom};
 ghost use Rattle.rules.specs.Limits.{rowLimit};
@@ -34,11 +33,12 @@ ghost use Rattle.monitor.specs.Record.{truthAt};
 ghost use Rattle.monitor.specs.Event.{previousHeld, truthBy};
 ghost use Rattle.monitor.specs.Core.{heldOf, Unrefused, momentMet, UpdateReady, UpdatedIn, AfterRows, RowReady, RowJudged};
 
-// An event, and what the record tells of the last event before it: whether one was seen, and its time. Each row's truth at it is lent beside this; the
-// clock is not here, since no row is judged by it.
+// A call, and what the record tells of those before it: the clock, by which no row is judged; whether an event was seen, and its time. Each row's truth at
+// that event is lent beside this.
 pub(crate) struct Arrival {
     pub(crate) time: u64,
     pub(crate) mask: u32,
+    pub(crate) clock: u64,
     pub(crate) seen: u8,
     pub(crate) last: u64,
 }
@@ -208,16 +208,6 @@ fn judge_plain(
         Plain::Either => either(truth_at(truths, numbers.x), truth_at(truths, numbers.y)),
         Plain::Previous => previous(arrival, found, numbers),
     }
-}
-
-// Bit x of the mask.
-fn bit_set(mask: u32, x: u32) -> bool
-    ensures { λ r. ⌜ r ≡ eqb (mask / 2 ^ x % 2) 1 ⌝ }
-{
-    if x < MASK_BITS {
-        return (mask >> x) % 2 == 1;
-    }
-    false
 }
 
 fn negation(x: bool) -> bool

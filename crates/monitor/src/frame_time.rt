@@ -14,15 +14,15 @@ ghost use Rattle.monitor.specs.Step.{TimeGives};
 // The board's counter has sixteen bits.
 const TURN: u64 = 65_536;
 
-// The time of a frame: last, and the gap that the counter shows since. Refused 6 where last is over the limit. Only last is judged: the time may
-// pass the limit, and the event then refuses it.
-pub fn frame_time(last: u64, counter: u16) -> Timed
-    ensures { λ r. ⌜ TimeGives last counter r ⌝ }
+// The time of a frame: the clock, and the gap that the counter shows since. Refused 6 where the clock is over the limit. Only the clock is judged: the
+// time may pass the limit, and the event then refuses it.
+pub fn frame_time(clock: u64, counter: u16) -> Timed
+    ensures { λ r. ⌜ TimeGives clock counter r ⌝ }
 {
-    if TIME_LIMIT < last {
+    if TIME_LIMIT < clock {
         return Timed::Refused(Refusal::Late);
     }
-    Timed::At(time_after(last, counter))
+    Timed::At(time_after(clock, counter))
 }
 
 // The time at which a frame is judged; 0 where the clock is over the limit, since such a record is refused 7 at any time.
@@ -35,13 +35,13 @@ pub(crate) fn time_shown(clock: u64, counter: u16) -> u64
     time_after(clock, counter)
 }
 
-// The low sixteen bits of last are subtracted from the counter with wrap.
-fn time_after(last: u64, counter: u16) -> u64
-    requires { ⌜ last ≤ timeLimit ⌝ }
-    ensures { λ r. ⌜ r ≡ frameTime last counter ⌝ }
+// The low sixteen bits of the clock are subtracted from the counter with wrap.
+fn time_after(clock: u64, counter: u16) -> u64
+    requires { ⌜ clock ≤ timeLimit ⌝ }
+    ensures { λ r. ⌜ r ≡ frameTime clock counter ⌝ }
 {
-    let low = (last % TURN) as u16;
-    last + wide(std::num::wrapping_sub_u16(counter, low))
+    let low = (clock % TURN) as u16;
+    clock + wide(std::num::wrapping_sub_u16(counter, low))
 }
 
 fn wide(gap: u16) -> u64

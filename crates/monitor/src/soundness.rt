@@ -11,6 +11,7 @@ use spans::stretch::SPAN_WORDS;
 use spans::stretch_sound::sound;
 use times::interval::length_of;
 use times::time::TIME_LIMIT;
+use times::time::later;
 use times::time::wide;
 ghost use mathlib.Core.Bool.{_&&_, _||_};
 ghost use mathlib.Core.Option.{none};
@@ -23,10 +24,10 @@ ghost use Rattle.rules.specs.Rows.{rowsOf};
 ghost use Rattle.rules.specs.Stretches.{spansOf, width};
 ghost use Rattle.times.specs.Times.{timeLimit};
 ghost use Rattle.monitor.specs.Core.{heldOf, recordOf};
-ghost use Rattle.monitor.specs.Soundness.{every, truthByte?, soundEntry?, soundLimits?, soundRow?, zeroPast?, soundTime?, sound?};
+ghost use Rattle.monitor.specs.Soundness.{every, truthByte?, soundEntry?, soundLimits?, soundRow?, zeroPast?, soundTimes?, sound?};
 ghost use Rattle.monitor.specs.Ready.{readyOf, refusalIn};
 
-// The row count, the time, each row of the table, and what stands past them.
+// The row count, the times, each row of the table, and what stands past them.
 pub(crate) fn sound_record(
     table: &[u32],
     store: &[u64],
@@ -39,14 +40,14 @@ pub(crate) fn sound_record(
     counts: &[u32; ROW_LIMIT],
 ) -> bool
     requires { ⌜ refusalIn (readyOf (now table) (length (now store))) ≡ none ⌝ }
-    requires { ⌜ (rows ≡ rowsOf (now table)) × (clock ≡ last) ⌝ }
+    requires { ⌜ rows ≡ rowsOf (now table) ⌝ }
     ensures { λ r. ⌜ r ≡ sound? (now (table .entry)) (now (store .entry))
-        (recordOf seen clock count (now (truths .entry)) (now (counts .entry))) ⌝ }
+        (recordOf seen clock last count (now (truths .entry)) (now (counts .entry))) ⌝ }
 {
     if count as usize != rows {
         return false;
     }
-    if sound_time(seen, clock) {
+    if sound_times(seen, clock, last) {
         if sound_rows(table, store, rows, seen, clock, last, truths, counts) {
             return zero_past(rows, truths, counts);
         }
@@ -54,16 +55,23 @@ pub(crate) fn sound_record(
     false
 }
 
-fn sound_time(seen: u8, clock: u64) -> bool
-    ensures { λ r. ⌜ r ≡ soundTime? seen clock ⌝ }
+// The last event's time is not after the clock, the clock within the limit; before any event its time is 0.
+fn sound_times(seen: u8, clock: u64, last: u64) -> bool
+    ensures { λ r. ⌜ r ≡ soundTimes? seen clock last ⌝ }
 {
     if 1 < seen {
         return false;
     }
-    if seen == 1 {
-        return clock <= TIME_LIMIT;
+    if clock < last {
+        return false;
     }
-    clock == 0
+    if TIME_LIMIT < clock {
+        return false;
+    }
+    if seen == 1 {
+        return true;
+    }
+    last == 0
 }
 
 // Each row of the table, their stretches one after the other.
@@ -78,9 +86,9 @@ fn sound_rows(
     counts: &[u32; ROW_LIMIT],
 ) -> bool
     requires { ⌜ refusalIn (readyOf (now table) (length (now store))) ≡ none ⌝ }
-    requires { ⌜ (rows ≡ rowsOf (now table)) × (clock ≡ last) × (last ≤ timeLimit) ⌝ }
+    requires { ⌜ (rows ≡ rowsOf (now table)) × (last ≤ clock) × (clock ≤ timeLimit) ⌝ }
     ensures { λ r. ⌜ r ≡ every rows (soundRow? (now (table .entry)) (now (store .entry))
-        (recordOf seen clock rows (now (truths .entry)) (now (counts .entry)))) ⌝ }
+        (recordOf seen clock last rows (now (truths .entry)) (now (counts .entry)))) ⌝ }
 {
     let mut from = 0;
     let mut row = 0;
@@ -118,7 +126,7 @@ fn sound_row(
     truth: u8,
     count: u32,
 ) -> bool
-    requires { ⌜ (spans ≡ spansOf numbers) × (length (now words) ≡ width numbers) × (last ≤ timeLimit) ⌝ }
+    requires { ⌜ (spans ≡ spansOf numbers) × (length (now words) ≡ width numbers) × (last ≤ clock) × (clock ≤ timeLimit) ⌝ }
     ensures { λ r. ⌜ r ≡ (soundEntry? seen truth count numbers && soundLimits? (now (words .entry)) (heldOf count) clock last numbers) ⌝ }
 {
     if sound_entry(spans, seen, truth, count) {
@@ -149,15 +157,16 @@ fn sound_entry(spans: u64, seen: bool, truth: u8, count: u32) -> bool
     false
 }
 
-// One stretch, by the limits of its row: firsts from the clock on, the latest first and last by the last event's time.
+// One stretch, by the limits of its row: firsts from the clock on; the latest first, where b has no end, is the clock or later by the last event's time,
+// and by that goes the latest last.
 fn sound_stretch(words: &[u64], count: u32, clock: u64, last: u64, numbers: Numbers) -> bool
-    requires { ⌜ last ≤ timeLimit ⌝ }
+    requires { ⌜ (last ≤ clock) × (clock ≤ timeLimit) ⌝ }
     ensures { λ r. ⌜ r ≡ soundLimits? (now (words .entry)) (heldOf count) clock last numbers ⌝ }
 {
     let held = Held {
         count: count as usize,
     };
-    let latest_first = last + wide(numbers.a);
+    let latest_first = later(clock, last + wide(numbers.a));
     let latest_last = last_reached(last, numbers.b);
     sound(
         words,

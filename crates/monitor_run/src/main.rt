@@ -1,5 +1,6 @@
-// Runs what document 01 wants compared and the text program cannot show: the spans after each event, stores, records and times that no frame
-// reaches, the reader. After each call stand its answer, the record's time and row count, and the store. p is bit 0 and q is bit 1 of the mask.
+// Runs what the documents want compared and the text program cannot show: the spans after each event and heartbeat, stores, records and times that no
+// frame reaches, the reader. After each call stand its answer, the record's clock, its last event's time and row count, and the store. p is bit 0 and q
+// is bit 1 of the mask.
 
 use libc::STDOUT_FILENO;
 use lines::frame::FrameFound;
@@ -19,6 +20,9 @@ use times::interval::NO_END;
 const P: u32 = 1;
 
 const Q: u32 = 2;
+
+// Bit 31.
+const HEARTBEAT: u32 = 2_147_483_648;
 
 // The last time that is taken, and the next.
 const LAST: u64 = 281_474_976_710_655;
@@ -71,8 +75,10 @@ const ONCE_EVER: [u32; 15] = [1, 0, 0, 0, 0, 0, 0, 0, 0, 0, 6, 1, 0, 1000, NO_EN
 fn main() {
     tables();
     spans();
+    heartbeats();
     stores();
     records();
+    clocks();
     reader(b"00020000000103\n00ab00000000ab\n00050000000006\n0007000000000");
 }
 
@@ -103,6 +109,19 @@ fn spans() {
     stream(&ONCE_EVER, &[0, 999, 1000, LAST], &[P, P, 0, 0]);
 }
 
+// A heartbeat clips the spans and moves the clock; its other bits are ignored, and what the record tells of the last event stays. Refusal 5 compares
+// with the clock, also before any event.
+fn heartbeats() {
+    say(b"-- p since [2,3] q, and heartbeats\n");
+    stream(
+        &SINCE,
+        &[2, 5, 6, 8, 8, 9, 8],
+        &[Q, P + Q, HEARTBEAT, HEARTBEAT + Q, P, HEARTBEAT, HEARTBEAT],
+    );
+    say(b"-- p since [2,3] q, a heartbeat before any event\n");
+    stream(&SINCE, &[5, 4, 5, 6], &[HEARTBEAT, Q, Q, HEARTBEAT]);
+}
+
 fn stores() {
     say(b"-- once [2,2] p on need - 1 words, and on need words\n");
     let mut short = [9; 3];
@@ -111,20 +130,52 @@ fn stores() {
     begin(&ONCE_TWO, &mut enough);
 }
 
-// At 10 neither p nor q and still a span: sound, but never reached. Between its events refusals 1, 4, 7, 6 and 5.
+// At 10 neither p nor q and still a span, and the clock at 11: sound, but never reached. With the event at 9 the span's last would be too late.
+// Between its events refusals 1, 4, 7, 6 and 5.
 fn records() {
     say(b"-- p since [2,3] q, from a record that was never reached\n");
     let mut space = [12, 13, 0, 0, 9];
     let store: &mut [u64] = &mut space;
     let mut kept = nothing_seen(3);
     kept.seen = 1;
-    kept.time = 10;
+    kept.clock = 11;
+    kept.last = 10;
     kept.counts[2] = 1;
+    call(&SINCE, store, at_times(kept, 11, 9), 11, P);
     let went = run(&SINCE, store, kept, &[11, 13], &[P, P + Q]);
     call(&CUT, store, went, 14, P);
     call(&SIX_WORDS, store, went, 14, P);
     call(&SINCE, store, kept, 14, P);
     run(&SINCE, store, went, &[LATE, 12, 14, 15], &[P, P, P, Q]);
+}
+
+// A span without end from 2000. Not sound: the last event after the clock; the first above clock and event time + a; the first below the clock. Sound:
+// the clock at 2000. Then no event seen: with an event's time not sound, without it sound.
+fn clocks() {
+    say(b"-- once [1000, no end] p, from records that were never reached\n");
+    let mut space = [2000, u64::MAX];
+    let store: &mut [u64] = &mut space;
+    let mut kept = nothing_seen(3);
+    kept.seen = 1;
+    kept.counts[2] = 1;
+    call(&ONCE_EVER, store, at_times(kept, 2000, 2001), 2001, 0);
+    call(&ONCE_EVER, store, at_times(kept, 1999, 10), 2001, 0);
+    call(&ONCE_EVER, store, at_times(kept, 2001, 10), 2001, 0);
+    call(&ONCE_EVER, store, at_times(kept, 2000, 10), 2001, 0);
+    say(b"-- once [1000, no end] p, from a clock with no event seen\n");
+    let mut space = [0, 0];
+    let store: &mut [u64] = &mut space;
+    let unseen = nothing_seen(3);
+    call(&ONCE_EVER, store, at_times(unseen, 2000, 1), 2001, P);
+    call(&ONCE_EVER, store, at_times(unseen, 2000, 0), 2001, P);
+}
+
+// The record with other times, which its spans need not fit.
+fn at_times(kept: Record, clock: u64, last: u64) -> Record {
+    let mut changed = kept;
+    changed.clock = clock;
+    changed.last = last;
+    changed
 }
 
 // A good line, a line in small letters, a wrong sum, a line that the end cuts off, and the end.
@@ -138,7 +189,7 @@ fn reader(text: &[u8]) {
     read(text, usize::MAX);
 }
 
-// A start on words that hold 9, and events.
+// A start on words that hold 9, and calls.
 fn stream(table: &[u32], times: &[u64], masks: &[u32]) {
     let mut space = [9; 5];
     let store: &mut [u64] = &mut space;
@@ -170,7 +221,7 @@ fn begin(table: &[u32], store: &mut [u64]) -> Record {
     started.record
 }
 
-// An event at each time.
+// A call at each time.
 fn run(table: &[u32], store: &mut [u64], found: Record, times: &[u64], masks: &[u32]) -> Record {
     let mut kept = found;
     let mut i = 0;
@@ -188,14 +239,29 @@ fn call(table: &[u32], store: &mut [u64], found: Record, time: u64, mask: u32) -
     let answer = judged.answer;
     match answer {
         Answer::Verdict(holds) => labelled(b": verdict ", holds as u64),
+        Answer::ClockMoved => moved(judged.record),
         Answer::Refused(why) => refusal_told(why),
     }
     left(judged.record, store);
     judged.record
 }
 
+// Whether an event was seen, and the truths at it of the first three rows, beside the answer to a heartbeat.
+fn moved(kept: Record) {
+    labelled(b": clock moved, seen ", kept.seen as u64);
+    say(b", truths");
+    truth(kept.truths[0]);
+    truth(kept.truths[1]);
+    truth(kept.truths[2]);
+}
+
+fn truth(byte: u8) {
+    labelled(b" ", byte as u64);
+}
+
 fn left(kept: Record, store: &[u64]) {
-    labelled(b", time ", kept.time);
+    labelled(b", clock ", kept.clock);
+    labelled(b", last ", kept.last);
     labelled(b", rows ", kept.rows as u64);
     say(b", store");
     word(store, 0);

@@ -1,25 +1,30 @@
--- One call, where the invariant holds. A kept call is accepted and the invariant holds of the longer history; any other is refused, 6 over the limit
--- and else 5, and changes nothing.
+-- One call, where the invariant holds. A kept call is accepted, and the invariant holds of the longer history, or of the same one at a heartbeat; any
+-- other is refused, 6 over the limit and else 5, and changes nothing.
 use mathlib.Core.Bool.{Bool, cond}
 use mathlib.Core.List.{List, _∷_}
-use mathlib.Core.Logic.{_⊎_, inl, inr}
+use mathlib.Core.Logic.{_⊎_, inl, inr, ⊎-elim}
 use mathlib.Core.Option.{none}
 use mathlib.Core.Path.{_≡_, ap}
 use Prim.Native.Nat.{ℕ, _-_, _≤_, _<_}
 use native.Mathlib.Omega.{arith}
-use Rattle.meaning.specs.History.{History, lastTime}
+use lib.Dec.{T}
+use Rattle.meaning.specs.History.{Event, History, lastTime}
+use Rattle.meaning.specs.Heartbeat.{trueEvents}
+use Rattle.meaning.proofs.Tells.{tells-decided}
 use Rattle.rules.specs.Rows.{rowsOf}
 use Rattle.refusals.specs.Refusals.{Refused, refused}
 use Rattle.refusals.specs.declared.refusal.Refusal.the-variants.{Earlier, Late}
 use Rattle.times.specs.Times.{timeLimit}
 use Rattle.monitor.specs.Record.{truthAt, clockOf}
-use Rattle.monitor.specs.Step.{setupOf, Call, timeOf, maskOf, refusalOf, verdict, refusal, stepOf}
-use Rattle.promises.specs.Stream.{State, call, next, Keeps, keeps?, eventOf}
+use Rattle.monitor.specs.Step.{setupOf, Call, timeOf, maskOf, refusalOf, verdict, clockMoved, refusal, stepOf}
+use Rattle.promises.specs.Stream.{State, call, next, accepted?, Keeps, keeps?, eventOf, Beats}
 use Rattle.promises.proofs.Invariant.{Invariant}
 use Rattle.promises.specs.Refusing.{six, five}
 use Rattle.promises.proofs.Refusing.{call-passes, refused-exactly, refusal-changes-nothing}
-use Rattle.promises.proofs.StreamLaws.{keeps-cases}
+use Rattle.promises.proofs.Deciding.{told-true, told-false}
+use Rattle.promises.proofs.StreamLaws.{keeps-cases, beats-told, event-more, beat-more}
 use Rattle.promises.proofs.EventKept.{event-kept}
+use Rattle.promises.proofs.HeartbeatKept.{heartbeat-kept}
 
 -- A refused call leaves the state.
 pub refused-same : (table : List ℕ) (s : State) (c : Call) {fault : Refused} → call table s c .reply ≡ refusal fault → next table s c ≡ s
@@ -31,8 +36,8 @@ module _ {table : List ℕ} {h : History} {clock : ℕ} {s : State} (inv : Invar
   time-same : timeOf (clockOf (s .found)) c ≡ timeOf clock c
   time-same = ap (λ (last : ℕ). timeOf last c) (inv .time)
 
-  accepted : Keeps clock c → refusalOf (setupOf table) (s .store) (s .found) c ≡ none
-  accepted keeps =
+  unrefused : Keeps clock c → refusalOf (setupOf table) (s .store) (s .found) c ≡ none
+  unrefused keeps =
       call-passes (setupOf table) (s .store) (s .found) c
       (record {
         ready = inv .ready;
@@ -42,9 +47,20 @@ module _ {table : List ℕ} {h : History} {clock : ℕ} {s : State} (inv : Invar
       })
 
   -- What is answered.
-  pub kept-reply : Keeps clock c → call table s c .reply ≡ verdict (truthAt (call table s c .left .truths) (rowsOf table - 1))
+  pub kept-reply : Keeps clock c → ¬ Beats c → call table s c .reply ≡ verdict (truthAt (call table s c .left .truths) (rowsOf table - 1))
   unfolding stepOf
-  kept-reply keeps = rw (accepted keeps)
+  kept-reply keeps no-beat = rw (unrefused keeps, told-false (beats-told (maskOf c)) no-beat)
+
+  pub moved-reply : Keeps clock c → Beats c → call table s c .reply ≡ clockMoved
+  unfolding stepOf
+  moved-reply keeps beat = rw (unrefused keeps, told-true (beats-told (maskOf c)) beat)
+
+  pub kept-accepted : Keeps clock c → T (accepted? (call table s c .reply))
+  kept-accepted keeps =
+      ⊎-elim
+      (λ beat. rw (moved-reply keeps beat) tt)
+      (λ no-beat. rw (kept-reply keeps no-beat) tt)
+      (tells-decided (beats-told (maskOf c)))
 
   pub late-reply : timeLimit < timeOf clock c → call table s c .reply ≡ refusal (refused Late)
   late-reply over =
@@ -56,44 +72,66 @@ module _ {table : List ℕ} {h : History} {clock : ℕ} {s : State} (inv : Invar
       refused-exactly .call (setupOf table) (s .store) (s .found) c (refused Earlier) .1
       (five (inv .ready) (inv .sound) (omega (arith, time-same)) (omega (arith, time-same, inv .time)))
 
-  -- A kept call keeps the invariant.
-  pub call-kept : Keeps clock c → Invariant table (eventOf clock c ∷ h) (timeOf clock c) (next table s c)
+  -- A kept call keeps the invariant: of the longer history at a true event, of the same one at a heartbeat.
+  pub call-kept : Keeps clock c → ¬ Beats c → Invariant table (eventOf clock c ∷ h) (timeOf clock c) (next table s c)
   unfolding stepOf
-  call-kept keeps =
-      rw (accepted keeps, time-same)
-      (event-kept inv (timeOf clock c) (maskOf c) (keeps .risen) (keeps .within))
+  call-kept keeps no-beat =
+      rw (unrefused keeps, time-same)
+      (event-kept inv (timeOf clock c) (maskOf c) (keeps .risen) (keeps .within) (told-false (beats-told (maskOf c)) no-beat))
 
-  -- By cases on what was answered: a verdict is given to kept calls alone, and no other refusal than 6 and 5.
-  not-both : {A : Type 0} {holds : Bool} {fault : Refused} → call table s c .reply ≡ verdict holds → call table s c .reply ≡ refusal fault → A
-  not-both judged refused = let clash : _≡_ {A = ℕ} 0 1 = cc in absurd (omega arith)
+  pub clock-kept : Keeps clock c → Beats c → Invariant table h (timeOf clock c) (next table s c)
+  unfolding stepOf
+  clock-kept keeps beat =
+      rw (unrefused keeps, time-same)
+      (heartbeat-kept inv (timeOf clock c) (maskOf c) (keeps .risen) (keeps .within) (told-true (beats-told (maskOf c)) beat))
 
-  pub only-kept : (holds : Bool) → call table s c .reply ≡ verdict holds → Keeps clock c
-  only-kept holds judged =
+  -- By cases on what was answered: only kept calls are accepted, and no other refusal than 6 and 5 is met.
+  pub only-kept : T (accepted? (call table s c .reply)) → Keeps clock c
+  only-kept accepted =
       keeps-cases (λ _. Keeps clock c) clock c
       (λ keeps. keeps)
-      (λ over. not-both judged (late-reply over))
-      (λ within below. not-both judged (earlier-reply within below))
+      (λ over. absurd (rw (late-reply over) at accepted))
+      (λ within below. absurd (rw (earlier-reply within below) at accepted))
+
+  pub only-judged : (holds : Bool) → call table s c .reply ≡ verdict holds → Keeps clock c × (¬ Beats c)
+  only-judged holds judged =
+      let keeps : Keeps clock c = only-kept (rw judged tt) in
+      (keeps, λ beat. let moved = moved-reply keeps beat in let clash : _≡_ {A = ℕ} 0 1 = cc in omega arith)
+
+  pub only-moved : call table s c .reply ≡ clockMoved → Keeps clock c × Beats c
+  only-moved moved =
+      let keeps : Keeps clock c = only-kept (rw moved tt) in (
+        keeps,
+        ⊎-elim
+            (λ beat. beat)
+            (λ no-beat. let judged = kept-reply keeps no-beat in let clash : _≡_ {A = ℕ} 0 1 = cc in absurd (omega arith))
+            (tells-decided (beats-told (maskOf c))),
+      )
 
   pub refused-only : (fault : Refused) → call table s c .reply ≡ refusal fault → (fault ≡ refused Late) ⊎ (fault ≡ refused Earlier)
   refused-only fault said =
       keeps-cases (λ _. (fault ≡ refused Late) ⊎ (fault ≡ refused Earlier)) clock c
-      (λ keeps. not-both (kept-reply keeps) said)
+      (λ keeps. absurd (rw said at (kept-accepted keeps)))
       (λ over. let reply = late-reply over in inl (cc))
       (λ within below. let reply = earlier-reply within below in inr (cc))
 
--- Any call keeps the invariant, of the history with its event where it is kept.
-pub next-kept : (table : List ℕ) (h : History) (s : State)
-    → Invariant table h (lastTime h) s
+-- Any call keeps the invariant, of the true events among those kept, with its own where it is kept.
+pub next-kept : (table : List ℕ) (all : List Event) (s : State)
+    → Invariant table (trueEvents all) (lastTime all) s
     → (c : Call)
-    → (events : History)
-    → events ≡ cond (keeps? (lastTime h) c) (eventOf (lastTime h) c ∷ h) h
-    → Invariant table events (lastTime events) (next table s c)
-next-kept table h s inv c events same =
+    → (more : List Event)
+    → more ≡ cond (keeps? (lastTime all) c) (eventOf (lastTime all) c ∷ all) all
+    → Invariant table (trueEvents more) (lastTime more) (next table s c)
+next-kept table all s inv c more same =
     rw same
     (keeps-cases
-    (λ keeps. Invariant table (cond keeps (eventOf (lastTime h) c ∷ h) h) (lastTime (cond keeps (eventOf (lastTime h) c ∷ h) h)) (next table s c))
-    (lastTime h)
+    (λ keeps. let events = cond keeps (eventOf (lastTime all) c ∷ all) all in Invariant table (trueEvents events) (lastTime events) (next table s c))
+    (lastTime all)
     c
-    (call-kept inv c)
+    (λ keeps.
+    ⊎-elim
+    (λ beat. rw (beat-more (eventOf (lastTime all) c) all beat) (clock-kept inv c keeps beat))
+    (λ no-beat. rw (event-more (eventOf (lastTime all) c) all no-beat) (call-kept inv c keeps no-beat))
+    (tells-decided (beats-told (maskOf c))))
     (λ over. rw (refused-same table s c (late-reply inv c over)) inv)
     (λ within below. rw (refused-same table s c (earlier-reply inv c within below)) inv))

@@ -1,9 +1,9 @@
--- One kept event keeps the invariant. By induction over the rows: each row's truth tells its formula at the event, from those of the lower rows, and
+-- One kept true event keeps the invariant. By induction over the rows: each row's truth tells its formula at the event, from those of the lower rows, and
 -- its spans go from the runs before to the runs after.
 use mathlib.Core.Bool.{Bool, true, false, not, _&&_}
 use mathlib.Core.List.{List, [], _∷_}
 use mathlib.Core.Logic.{⊎-elim}
-use mathlib.Core.Path.{_≡_, refl, _∙_}
+use mathlib.Core.Path.{_≡_, refl}
 use Prim.Native.Nat.{ℕ, zero, suc, _≤_, _<_}
 use native.Mathlib.Nat.{eq-or-lt-of-le, le-of-suc-le-suc}
 use native.Mathlib.Omega.{arith}
@@ -12,6 +12,7 @@ use Rattle.meaning.specs.Interval.{End, endOf}
 use Rattle.meaning.specs.History.{Event, History, lastTime}
 use Rattle.meaning.specs.Formula.{Formula, Holds}
 use Rattle.meaning.specs.Computed.{within?}
+use Rattle.meaning.specs.Heartbeat.{heartbeat?}
 use Rattle.meaning.specs.Spans.{Span}
 use Rattle.meaning.proofs.Tells.{Tells, tells-eqb, tells-not, tells-and, tells-or, tells-same}
 use Rattle.meaning.proofs.FormulaLaws.{tells-within}
@@ -34,14 +35,15 @@ use Rattle.monitor.specs.Record.{wasSeen, truthAt, clockOf, eventTime}
 use Rattle.spans.proofs.CoverLaws.{covered-told}
 use Rattle.monitor.proofs.EventLaws.{Room, length-store}
 use Rattle.monitor.proofs.RisingLaws.{truth-told}
-use Rattle.monitor.specs.Event.{Moment, arrivalOf, spansBy, spansAfter, truthBy, truthOf, truthsAfter, spansNow, storeAfter, recordAfter}
+use Rattle.monitor.specs.Event.{Moment, arrivalOf, spansBy, spansAfter, truthBy, truthOf, truthsAfter, spansJudged, spansNow, recordAfter, storeAfter}
 use Rattle.promises.specs.Stream.{State}
+use Rattle.promises.specs.Verdicts.{Says}
 use Rattle.promises.specs.Spans.{KeeperHolds, FeederHolds}
-use Rattle.promises.proofs.Invariant.{anySeen, Says, Spanned, RowFollows, Invariant}
+use Rattle.promises.proofs.Invariant.{anySeen, Spanned, RowFollows, Invariant}
 use Rattle.promises.proofs.RowsAfter.{row-laid}
 use Rattle.promises.proofs.SoundAfter.{room-after}
 use Rattle.promises.proofs.SoundIsKept.{sound-after, sized-after}
-use Rattle.promises.proofs.InvariantLaws.{passes, spans-found}
+use Rattle.promises.proofs.InvariantLaws.{past, passes, spans-found}
 
 -- Kind 5: the truth and the time found are those of the event before.
 previous-told : (φ : Formula) (a : ℕ) (b : End) (e : Event) (h : History) (seen was : Bool) (last : ℕ)
@@ -104,9 +106,9 @@ module _ (m : Moment) (h : History) (of : ℕ → Formula) (r : ℕ) (row : Numb
       → Tells (fedBy not (truthAt truths) row columns) (Holds (fedBy Formula.negation of row columns) (event ∷ h))
   fed-told columns lower below = taken-told (columns .when) _ _ (lower .at (feeder (columns .feed) row) below)
 
--- An event not before the clock and within the limit, where the invariant holds.
+-- A true event not before the clock and within the limit, where the invariant holds.
 module _ {table : List ℕ} {h : History} {clock : ℕ} {s : State} (inv : Invariant table h clock s) (time mask : ℕ)
-    (later : clock ≤ time) (within : time ≤ timeLimit) where
+    (later : clock ≤ time) (within : time ≤ timeLimit) (no-beat : heartbeat? mask ≡ false) where
   abbrev m : Moment
   m = record { table = table; store = s .store; found = s .found; time = time; mask = mask }
 
@@ -116,9 +118,12 @@ module _ {table : List ℕ} {h : History} {clock : ℕ} {s : State} (inv : Invar
   abbrev RowTold : ℕ → Type 0
   RowTold row = Tells (truthOf m row (truthsAfter m row)) (Holds (formulaOf table row) longer)
 
+  before-now : NoLater time h
+  before-now = no-later-on (lastTime h) time h (omega (arith, past inv)) (inv .ordered)
+
   longer-ordered : NoLater time longer
   unfolding NoLater
-  longer-ordered = (omega arith, no-later-on clock time h later (inv .ordered))
+  longer-ordered = (omega arith, before-now)
 
   -- What the truths after the rows below n tell.
   truths-told : (n : ℕ)
@@ -139,7 +144,7 @@ module _ {table : List ℕ} {h : History} {clock : ℕ} {s : State} (inv : Invar
     lower =
         record {
           seen = inv .seen;
-          last = inv .time ∙ inv .now;
+          last = inv .event;
           before = λ x below. inv .follows x (omega arith) .says;
           at = truths-told row (omega arith) told;
         }
@@ -152,7 +157,7 @@ module _ {table : List ℕ} {h : History} {clock : ℕ} {s : State} (inv : Invar
     spans-by (stretch columns) S names spanned =
         runs-event (KeeperHolds table row columns) (FeederHolds table row columns) (numbers .a) (endOf (numbers .b))
         (range-order (numbers .a) (numbers .b) (passes inv .good row known .limits))
-        (record { time = time; mask = mask }) h (no-later-on clock time h later (inv .ordered))
+        (record { time = time; mask = mask }) h before-now
         (keptBy true (truthAt (truthsAfter m row)) numbers (columns .keep)) (fedBy not (truthAt (truthsAfter m row)) numbers columns) clock S
         (kept-told m h (formulaOf table) row numbers (truthsAfter m row) (columns .keep) lower (names .0))
         (fed-told m h (formulaOf table) row numbers (truthsAfter m row) columns lower (names .1)) later spanned
@@ -170,7 +175,7 @@ module _ {table : List ℕ} {h : History} {clock : ℕ} {s : State} (inv : Invar
         taken-told m h (formulaOf table) row numbers (truthsAfter m row) (columns .inside) _ (sinceOf (formulaOf table) numbers columns)
         (tells-same (means .0) (means .1) (covered-told time after))
 
-    spans-follow : Spanned table row longer time (ruleOf numbers) (spansNow m row)
+    spans-follow : Spanned table row longer time (ruleOf numbers) (spansJudged m row)
     unfolding spansAfter
     spans-follow =
         rw (spans-found inv row known)
@@ -180,7 +185,7 @@ module _ {table : List ℕ} {h : History} {clock : ℕ} {s : State} (inv : Invar
     unfolding truthOf
     truth-follows =
         rw (passed-formula table (rowsOf table) (needOf table) row (passes inv) known)
-        (truth-by (ruleOf numbers) (spansNow m row) (passes inv .good row known .names) spans-follow)
+        (truth-by (ruleOf numbers) (spansJudged m row) (passes inv .good row known .names) spans-follow)
 
   rows-told : (n : ℕ) → n ≤ rowsOf table → (row : ℕ) → row < n → RowTold row
   rows-told zero few row below = absurd (omega arith)
@@ -191,17 +196,17 @@ module _ {table : List ℕ} {h : History} {clock : ℕ} {s : State} (inv : Invar
       (λ lower. before row lower)
       (eq-or-lt-of-le (le-of-suc-le-suc below))
 
-  spans-told : (row : ℕ) → row < rowsOf table → Spanned table row longer time (ruleOf (numbersAt table row)) (spansNow m row)
+  spans-told : (row : ℕ) → row < rowsOf table → Spanned table row longer time (ruleOf (numbersAt table row)) (spansJudged m row)
   spans-told row known = spans-follow row known (rows-told row (omega arith))
 
   risen : clockOf (s .found) ≤ time
   risen = omega (arith, inv .time)
 
-  spans-fit : Room m (rowsOf table)
+  spans-fit : Room table (spansNow m) (rowsOf table)
   spans-fit = room-after m (inv .ready) (inv .sound) within risen
 
   abbrev pub stateAfter : State
-  stateAfter = record { found = recordAfter m; store = storeAfter m (rowsOf table) }
+  stateAfter = record { found = recordAfter m; store = storeAfter m }
 
   row-follows : (row : ℕ) → row < rowsOf table → RowFollows table row longer time stateAfter
   unfolding recordAfter
@@ -212,20 +217,20 @@ module _ {table : List ℕ} {h : History} {clock : ℕ} {s : State} (inv : Invar
       in
       record {
         spans = spansNow m row;
-        spanned = spans-told row known;
+        spanned = rw no-beat (spans-told row known);
         laid = row-laid m row known counts spans-fit;
-        says = (told .sound, told .complete);
+        says = rw no-beat (told .sound, told .complete);
       }
 
   pub event-kept : Invariant table longer time stateAfter
   unfolding recordAfter
   event-kept =
       record {
-        now = refl;
         ordered = longer-ordered;
+        event = rw no-beat;
         time = refl;
-        seen = refl;
-        ready = rw (length-store m (rowsOf table) spans-fit (inv .ready .room)) (inv .ready);
+        seen = rw no-beat;
+        ready = rw (length-store table (spansNow m) (s .store) (rowsOf table) spans-fit (inv .ready .room)) (inv .ready);
         sized = sized-after m (inv .sized);
         sound = sound-after m (inv .ready) (inv .sound) risen within (inv .sized);
         follows = row-follows;

@@ -11,6 +11,7 @@ use lib.ListN.{length, getD, drop, length-append}
 use borrow.Author.Tests.{le-leb}
 use Rattle.meaning.specs.Interval.{End, upTo, noEnd, endOf}
 use Rattle.meaning.specs.History.{History}
+use Rattle.meaning.specs.Heartbeat.{trueEvents}
 use Rattle.meaning.specs.Formula.{truth, bit, negation, Holds, Reached}
 use Rattle.meaning.specs.Spans.{Span}
 use Rattle.meaning.specs.Runs.{Runs}
@@ -91,7 +92,7 @@ pulses-append : (times : List ℕ) (time : ℕ) → pulsesAt (times ++ (time ∷
 pulses-append [] time = refl
 pulses-append (first ∷ times) time = ap (λ (calls : List Call). event first 1 ∷ calls) (pulses-append times time)
 
-pulses-kept : (apart n : ℕ) → pulseTime apart n ≤ timeLimit → history (pulsesAt (pulseTimes apart n)) ≡ pulses apart n
+pulses-kept : (apart n : ℕ) → pulseTime apart n ≤ timeLimit → kept [] (pulsesAt (pulseTimes apart n)) ≡ pulses apart n
 unfolding pulseTimes pulses pulseTime kept
 pulses-kept apart zero within = refl
 pulses-kept apart (suc n) within =
@@ -110,18 +111,32 @@ pulses-length apart zero = refl
 pulses-length apart (suc n) =
     rw (pulses-append (pulseTimes apart n) (pulseTime apart (suc n)), length-append) (omega (arith, pulses-length apart n))
 
-filling-kept : (a b : ℕ) → LimitsRight a b → history (fillingCalls a b) ≡ filling a (endOf b)
+filling-kept : (a b : ℕ) → LimitsRight a b → kept [] (fillingCalls a b) ≡ filling a (endOf b)
 unfolding fillingTimes filling
 filling-kept a b limits =
-    range-cases (λ end. history (pulsesAt (fillingTimes a end)) ≡ filling a end) a b (in-range-of limits)
+    range-cases (λ end. kept [] (pulsesAt (fillingTimes a end)) ≡ filling a end) a b (in-range-of limits)
     (pulses-kept 0 0 (omega (arith, pulse-time 0 0)))
     (λ order most.
     let n = b / (b - a + 2) in
     pulses-kept (b - a + 2) n (omega (arith, pulse-time (b - a + 2) n, div-mul-le-self b (b - a + 2))))
 
+-- No pulse is a heartbeat.
+pulses-true : (apart n : ℕ) → trueEvents (pulses apart n) ≡ pulses apart n
+unfolding pulses trueEvents
+pulses-true apart zero = refl
+pulses-true apart (suc n) = ap (λ (h : History). record { time = pulseTime apart (suc n); mask = 1 } ∷ h) (pulses-true apart n)
+
+filling-true : (a : ℕ) (end : End) → trueEvents (filling a end) ≡ filling a end
+unfolding filling
+filling-true a (upTo b) = pulses-true (b - a + 2) (b / (b - a + 2))
+filling-true a noEnd = pulses-true 0 0
+
+filling-history : (a b : ℕ) → LimitsRight a b → history (fillingCalls a b) ≡ filling a (endOf b)
+filling-history a b limits = ap trueEvents (filling-kept a b limits) ∙ filling-true a (endOf b)
+
 all-kept : (a b : ℕ) → LimitsRight a b → AllKept (fillingCalls a b)
 unfolding fillingTimes filling
-all-kept a b limits = ap length (filling-kept a b limits) ∙ go (endOf b)
+all-kept a b limits = ap length (filling-history a b limits) ∙ go (endOf b)
   where
     go : (end : End) → length (filling a end) ≡ length (pulsesAt (fillingTimes a end))
     go (upTo last) = pulses-length (last - a + 2) (last / (last - a + 2))
@@ -135,7 +150,7 @@ runs-fill a b limits =
       times = fillingTimes a (endOf b);
       kept = all-kept a b limits;
       spans = full;
-      runs = rw (filling-kept a b limits) runs;
+      runs = rw (filling-history a b limits, filling-kept a b limits) runs;
       many = many;
     }
 

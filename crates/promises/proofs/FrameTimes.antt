@@ -1,26 +1,25 @@
 -- Frame times are true times where only frames move the time. By induction over the calls, from any state where the stream's invariant holds: an event
 -- leaves the clock where it is, and the time of a frame that is kept is its true time, which is then the clock. A refused call leaves all as it was.
-use mathlib.Core.Bool.{cond}
+use mathlib.Core.Bool.{Bool, true, false, cond}
 use mathlib.Core.List.{List, [], _∷_, _++_, map}
 use mathlib.Core.Path.{_≡_, refl, sym, ap, subst, _∙_}
 use Prim.Native.Nat.{ℕ, _≤_}
 use native.Mathlib.Omega.{arith}
 use lib.Dec.{T}
 use Rattle.meaning.specs.FrameTime.{counterOf, Close}
-use Rattle.meaning.specs.History.{History, lastTime}
+use Rattle.meaning.specs.History.{Event, lastTime}
+use Rattle.meaning.specs.Heartbeat.{trueEvents}
 use Rattle.meaning.proofs.FrameTimeLaws.{true-close, next-true}
-use Rattle.refusals.specs.Refusals.{Refused}
 use Rattle.times.specs.Times.{timeLimit}
-use Rattle.monitor.specs.Step.{Call, event, frame, timeOf, Reply, verdict, refusal}
+use Rattle.monitor.specs.Step.{Call, event, frame, timeOf, Reply}
 use Rattle.monitor.specs.Record.{clockOf}
-use Rattle.promises.specs.Stream.{State, call, next, started, Keeps, keeps?, eventOf, kept}
-use Rattle.promises.specs.AsIfNotMade.{judged}
+use Rattle.promises.specs.Stream.{State, call, next, started, accepted?, Keeps, keeps?, eventOf, kept}
 use Rattle.promises.specs.LineTimes.{replies, recordTimes, Every, acceptedTimes}
 use Rattle.promises.specs.FrameTimes.{frameCounters, ofFrames, FrameTimesAreTrue}
 use Rattle.promises.proofs.Invariant.{Invariant}
 use Rattle.promises.proofs.StreamLaws.{keeps-cases}
 use Rattle.promises.proofs.StartRight.{start-right}
-use Rattle.promises.proofs.CallKept.{kept-reply, only-kept, next-kept}
+use Rattle.promises.proofs.CallKept.{kept-accepted, only-kept, next-kept}
 
 -- Call by call, the counter of a frame is that of its true time.
 data Counted : List Call → List ℕ → Type 0 where
@@ -40,23 +39,23 @@ counted (frame counter mask ∷ calls) [] same = let clash : _≡_ {A = ℕ} 0 1
 counted (frame counter mask ∷ calls) (time ∷ times) same =
     let here : counter ≡ counterOf time = cc in a-frame here (counted calls times (cc))
 
--- The history after a call.
-abbrev heard : History → Call → History
+-- The kept calls after one more.
+abbrev heard : List Event → Call → List Event
 heard h c = cond (keeps? (lastTime h) c) (eventOf (lastTime h) c ∷ h) h
 
--- Only frames move the time, from a history on.
-abbrev OnlyFramesFrom : History → List Call → Type 0
+-- Only frames move the time, from such a list on.
+abbrev OnlyFramesFrom : List Event → List Call → Type 0
 OnlyFramesFrom h calls = (before later : List Call) (time mask : ℕ)
     → calls ≡ before ++ (event time mask ∷ later)
     → Keeps (lastTime (kept h before)) (event time mask)
     → time ≡ lastTime (kept h before)
 
-only-later : (h : History) (c : Call) (calls : List Call) → OnlyFramesFrom h (c ∷ calls) → OnlyFramesFrom (heard h c) calls
+only-later : (h : List Event) (c : Call) (calls : List Call) → OnlyFramesFrom h (c ∷ calls) → OnlyFramesFrom (heard h c) calls
 unfolding kept
 only-later h c calls only before later time mask same =
     only (c ∷ before) later time mask (ap (λ (rest : List Call). c ∷ rest) same)
 
-event-stays : (h : History) (time mask : ℕ) (calls : List Call)
+event-stays : (h : List Event) (time mask : ℕ) (calls : List Call)
     → OnlyFramesFrom h (event time mask ∷ calls)
     → lastTime (heard h (event time mask)) ≡ lastTime h
 unfolding kept
@@ -66,7 +65,7 @@ event-stays h time mask calls only =
     (λ over. refl)
     (λ within below. refl)
 
-heard-kept : (h : History) (c : Call) → Keeps (lastTime h) c → heard h c ≡ eventOf (lastTime h) c ∷ h
+heard-kept : (h : List Event) (c : Call) → Keeps (lastTime h) c → heard h c ≡ eventOf (lastTime h) c ∷ h
 heard-kept h c keeps =
     keeps-cases (λ keeps. cond keeps (eventOf (lastTime h) c ∷ h) h ≡ eventOf (lastTime h) c ∷ h) (lastTime h) c
     (λ so. refl)
@@ -74,14 +73,14 @@ heard-kept h c keeps =
     (λ within below. absurd (omega (arith, keeps .risen)))
 
 -- One call more.
-module _ {table : List ℕ} {h : History} {s : State} (inv : Invariant table h (lastTime h) s) where
-  on : (c : Call) → Invariant table (heard h c) (lastTime (heard h c)) (next table s c)
+module _ {table : List ℕ} (h : List Event) {s : State} (inv : Invariant table (trueEvents h) (lastTime h) s) where
+  on : (c : Call) → Invariant table (trueEvents (heard h c)) (lastTime (heard h c)) (next table s c)
   on c = next-kept table h s inv c (heard h c) refl
 
-  heard-refused : (c : Call) {fault : Refused} → call table s c .reply ≡ refusal fault → heard h c ≡ h
+  heard-refused : (c : Call) → accepted? (call table s c .reply) ≡ false → heard h c ≡ h
   heard-refused c refused =
       keeps-cases (λ keeps. cond keeps (eventOf (lastTime h) c ∷ h) h ≡ h) (lastTime h) c
-      (λ keeps. let judged = kept-reply inv c keeps in let clash : _≡_ {A = ℕ} 0 1 = cc in absurd (omega arith))
+      (λ keeps. absurd (rw refused at (kept-accepted inv c keeps)))
       (λ over. refl)
       (λ within below. refl)
 
@@ -103,34 +102,34 @@ module _ {table : List ℕ} {h : History} {s : State} (inv : Invariant table h (
 module _ (table : List ℕ) where
   abbrev AllTrue : State → List Call → List ℕ → Type 0
   AllTrue s calls times =
-      Every (λ (reply : Reply). T (judged reply)) (ofFrames calls (replies table s calls)) × (ofFrames calls (recordTimes table s calls) ≡ times)
+      Every (λ (reply : Reply). T (accepted? reply)) (ofFrames calls (replies table s calls)) × (ofFrames calls (recordTimes table s calls) ≡ times)
 
-  all-true : {h : History} {s : State} {calls : List Call} {times : List ℕ}
-      → Invariant table h (lastTime h) s
+  all-true : (h : List Event) {s : State} {calls : List Call} {times : List ℕ}
+      → Invariant table (trueEvents h) (lastTime h) s
       → OnlyFramesFrom h calls
       → Counted calls times
       → Close (lastTime h) times
       → Every (λ (time : ℕ). time ≤ timeLimit) times
       → AllTrue s calls times
   unfolding replies recordTimes ofFrames Close
-  all-true inv only no-call close within = (tt, refl)
-  all-true {h} inv only (an-event {time} {mask} {calls} {times} others) close within =
-      all-true (on inv (event time mask)) (only-later h (event time mask) calls only) others
+  all-true h inv only no-call close within = (tt, refl)
+  all-true h inv only (an-event {time} {mask} {calls} {times} others) close within =
+      all-true (heard h (event time mask)) (on h inv (event time mask)) (only-later h (event time mask) calls only) others
       (subst (λ (last : ℕ). Close last times) (sym (event-stays h time mask calls only)) close) within
-  all-true {h} {s} inv only (a-frame {counter} {mask} {time} {calls} {times} same others) close (early, within) =
+  all-true h {s} inv only (a-frame {counter} {mask} {time} {calls} {times} same others) close (early, within) =
       let c = frame counter mask in
-      let kept = keeps inv counter mask time times same close early in
+      let kept = keeps h inv counter mask time times same close early in
       let rest : AllTrue (next table s c) calls times =
-      all-true (on inv c) (only-later h c calls only) others
-      (subst (λ (last : ℕ). Close last times) (sym (moves inv counter mask time times same close kept)) (close .2)) within
+      all-true (heard h c) (on h inv c) (only-later h c calls only) others
+      (subst (λ (last : ℕ). Close last times) (sym (moves h inv counter mask time times same close kept)) (close .2)) within
       in
-      ((rw (kept-reply inv c kept) tt, rest .0), rw (timed inv counter mask time times same close kept, rest .1))
+      ((kept-accepted inv c kept, rest .0), rw (timed h inv counter mask time times same close kept, rest .1))
 
   -- Where the times of those that are accepted go on from the clock, the record has them.
   abbrev AcceptedTrue : List Call → List ℕ → Type 0
   AcceptedTrue calls times =
-      (h : History) (s : State)
-      → Invariant table h (lastTime h) s
+      (h : List Event) (s : State)
+      → Invariant table (trueEvents h) (lastTime h) s
       → OnlyFramesFrom h calls
       → Close (lastTime h) (acceptedTimes (ofFrames calls (replies table s calls)) times)
       → acceptedTimes (ofFrames calls (replies table s calls)) (ofFrames calls (recordTimes table s calls))
@@ -141,7 +140,7 @@ module _ (table : List ℕ) where
       → AcceptedTrue calls times
       → AcceptedTrue (frame counter mask ∷ calls) (time ∷ times)
   unfolding replies recordTimes ofFrames acceptedTimes Close
-  frame-more counter mask calls time times same more h s inv only = go (call table s c .reply) refl
+  frame-more counter mask calls time times same more h s inv only = go (accepted? (call table s c .reply)) refl
     where
       c : Call
       c = frame counter mask
@@ -155,27 +154,27 @@ module _ (table : List ℕ) where
           → acceptedTimes (ofFrames calls (replies table (next table s c) calls)) (ofFrames calls (recordTimes table (next table s c) calls))
           ≡ acceptedTimes (ofFrames calls (replies table (next table s c) calls)) times
       later last is close =
-          more (heard h c) (next table s c) (on inv c) (only-later h c calls only)
+          more (heard h c) (next table s c) (on h inv c) (only-later h c calls only)
           (subst (λ (from : ℕ). Close from (acceptedTimes (ofFrames calls (replies table (next table s c) calls)) times)) (sym is) close)
 
-      go : (reply : Reply)
-          → call table s c .reply ≡ reply
+      go : (yes : Bool)
+          → accepted? (call table s c .reply) ≡ yes
           → Close (lastTime h) (acceptedTimes answered (time ∷ times))
           → acceptedTimes answered (ofFrames (c ∷ calls) (recordTimes table s (c ∷ calls))) ≡ acceptedTimes answered (time ∷ times)
-      go (verdict holds) e close =
+      go true e close =
           let accepted = acceptedTimes (ofFrames calls (replies table (next table s c) calls)) times in
           let goes-on : Close (lastTime h) (time ∷ accepted) = rw e at close in
-          let kept = only-kept inv c holds e in
-          rw (e, timed inv counter mask time accepted same goes-on kept)
-          (ap (λ (rest : List ℕ). time ∷ rest) (later time (moves inv counter mask time accepted same goes-on kept) (goes-on .2)))
-      go (refusal fault) e close = rw e (later (lastTime h) (ap lastTime (heard-refused inv c e)) (rw e at close))
+          let kept = only-kept inv c (rw e tt) in
+          rw (e, timed h inv counter mask time accepted same goes-on kept)
+          (ap (λ (rest : List ℕ). time ∷ rest) (later time (moves h inv counter mask time accepted same goes-on kept) (goes-on .2)))
+      go false e close = rw e (later (lastTime h) (ap lastTime (heard-refused h inv c e)) (rw e at close))
 
   accepted-true : {calls : List Call} {times : List ℕ} → Counted calls times → AcceptedTrue calls times
   unfolding replies recordTimes ofFrames acceptedTimes
   accepted-true no-call = λ h s inv only close. refl
   accepted-true (an-event {time} {mask} {calls} {times} others) =
       λ h s inv only close.
-      accepted-true others (heard h (event time mask)) (next table s (event time mask)) (on inv (event time mask))
+      accepted-true others (heard h (event time mask)) (next table s (event time mask)) (on h inv (event time mask))
       (only-later h (event time mask) calls only)
       (subst (λ (last : ℕ). Close last (acceptedTimes (ofFrames calls (replies table (next table s (event time mask)) calls)) times))
       (sym (event-stays h time mask calls only)) close)
@@ -183,11 +182,11 @@ module _ (table : List ℕ) where
       frame-more counter mask calls time times same (accepted-true others)
 
 pub frame-times-are-true : FrameTimesAreTrue
-unfolding kept
+unfolding kept trueEvents
 frame-times-are-true table store calls times starts only same =
     let begun : Invariant table [] 0 (started table store) = start-right table store starts in
     let call-by-call = counted calls times same in
     record {
-      all = λ true-times. all-true table begun only call-by-call (true-close times true-times);
+      all = λ true-times. all-true table [] begun only call-by-call (true-close times true-times);
       accepted-ones = λ true-times. accepted-true table call-by-call [] (started table store) begun only (true-close _ true-times);
     }

@@ -1,14 +1,11 @@
--- What holds of a stream between any two of its calls: one invariant over the table, the kept events, the clock and the monitor's state. It holds
+-- What holds of a stream between any two of its calls: one invariant over the table, the kept true events, the clock and the monitor's state. It holds
 -- after a start and every call keeps it; demands 2 and 3 are read off it.
 use mathlib.Core.Bool.{Bool, true, false}
 use mathlib.Core.List.{List, [], _∷_}
-use mathlib.Core.Logic.{_↔_}
 use mathlib.Core.Path.{_≡_}
 use Prim.Native.Nat.{ℕ, _<_}
-use lib.Dec.{T}
 use lib.ListN.{length}
 use Rattle.meaning.specs.History.{History, lastTime}
-use Rattle.meaning.specs.Formula.{Formula, Holds}
 use Rattle.meaning.specs.Spans.{Span}
 use Rattle.meaning.proofs.HistoryLaws.{NoLater}
 use Rattle.rules.specs.Kinds.{Rule, plain, stretch}
@@ -16,21 +13,17 @@ use Rattle.rules.specs.Rows.{rowsOf, numbersAt, ruleOf}
 use Rattle.rules.specs.Stretches.{width}
 use Rattle.rules.specs.RowFormula.{formulaOf}
 use Rattle.spans.specs.Layout.{Laid}
-use Rattle.monitor.specs.Record.{wasSeen, truthAt, heldAt, stretchAt, clockOf}
+use Rattle.monitor.specs.Record.{wasSeen, truthAt, heldAt, stretchAt, clockOf, eventTime}
 use Rattle.promises.specs.Stream.{State}
 use Rattle.promises.specs.Conditions.{Ready, RecordRight}
 use Rattle.promises.specs.SoundIsKept.{Sized}
+use Rattle.promises.specs.Verdicts.{Says}
 use Rattle.promises.specs.Spans.{RowRuns}
 
 -- "Before the first event there is nothing".
 abbrev pub anySeen : History → Bool
 anySeen [] = false
 anySeen (e ∷ h) = true
-
--- A row's truth: no before any event, then yes exactly when the formula holds at the newest.
-abbrev pub Says : History → Bool → Formula → Type 0
-Says [] truth φ = truth ≡ false
-Says (e ∷ h) truth φ = T truth ↔ Holds φ (e ∷ h)
 
 -- A row's spans, by what it says: the runs of its stretch, none where it has no stretch.
 abbrev pub Spanned : List ℕ → ℕ → History → ℕ → Rule → List Span → Type 0
@@ -45,9 +38,9 @@ pub record RowFollows (table : List ℕ) (row : ℕ) (h : History) (clock : ℕ)
   pub says : Says h (truthAt (s .found .truths) row) (formulaOf table row)
 
 pub record Invariant (table : List ℕ) (h : History) (clock : ℕ) (s : State) : Type 0 where
-  -- Time: the clock is the last kept time, none is later, and the record has it.
-  pub now : clock ≡ lastTime h
-  pub ordered : NoLater clock h
+  -- Time: no event is later than the newest, and the record has its time and the clock.
+  pub ordered : NoLater (lastTime h) h
+  pub event : eventTime (s .found) ≡ lastTime h
   pub time : clockOf (s .found) ≡ clock
   pub seen : wasSeen (s .found) ≡ anySeen h
   -- Room: the table is right, and the store has its need.

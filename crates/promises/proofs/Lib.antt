@@ -26,6 +26,7 @@ pub mod SpannedLaws
 pub mod InvariantLaws
 pub mod StartRight
 pub mod EventKept
+pub mod HeartbeatKept
 pub mod CallKept
 pub mod StreamKept
 pub mod Verdicts

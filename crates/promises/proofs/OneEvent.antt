@@ -1,18 +1,18 @@
--- One event from any sound record, as sets. The spans found are sound, so they rise and leave room at their end, and the laws of an update give its
+-- One event, and one heartbeat, from any sound record, as sets. The spans found are sound, so they rise and leave room at their end, and the laws of an update give its
 -- members; the truths of the lower rows, which it goes by, are those that the call leaves.
-use mathlib.Core.Bool.{Bool, true, false, not}
+use mathlib.Core.Bool.{Bool, true, false, cond, not}
 use mathlib.Core.List.{List}
 use mathlib.Core.Logic.{_↔_}
 use mathlib.Core.Option.{none}
-use mathlib.Core.Path.{_≡_, sym, ap, _∙_}
-use Prim.Native.Nat.{ℕ, _+_, _<_}
+use mathlib.Core.Path.{_≡_, refl, sym, ap, subst, _∙_}
+use Prim.Native.Nat.{ℕ, _+_, _≤_, _<_}
 use native.Mathlib.Omega.{arith}
 use lib.Dec.{T}
 use lib.ListN.{length}
 use Rattle.meaning.specs.Interval.{endOf, _≤End_, _+End_}
+use Rattle.meaning.specs.Heartbeat.{heartbeat?}
 use Rattle.meaning.specs.Spans.{Span, In, Rising, clip}
-use Rattle.meaning.specs.Sound.{lengthOf}
-use Rattle.meaning.proofs.SpansLaws.{Under}
+use Rattle.meaning.proofs.SpansLaws.{clip-in, clip-rising, Under}
 use Rattle.meaning.proofs.Tells.{Tells, tells-not}
 use Rattle.rules.specs.Kinds.{stretch}
 use Rattle.rules.specs.Rows.{rowsOf, numbersAt, ruleOf, keptBy, feeder, taken, fedBy}
@@ -23,22 +23,20 @@ use Rattle.rules.proofs.KindsLaws.{Names}
 use Rattle.rules.proofs.RowFormulaLaws.{kept-same}
 use Rattle.rules.proofs.PassedLaws.{InRange, range-order, Passed, passed-gives}
 use Rattle.spans.proofs.CoverLaws.{covered-told}
-use Rattle.spans.proofs.LayoutLaws.{laid-read}
 use Rattle.monitor.proofs.RisingLaws.{truth-told}
 use Rattle.monitor.specs.declared.record.Record.{Record}
 use Rattle.monitor.specs.Record.{truthAt, spansFound, clockOf, eventTime}
-use Rattle.monitor.specs.Event.{Moment, spansAfter, truthOf, truthsAfter, spansNow, storeAfter, recordAfter}
-use Rattle.monitor.specs.Step.{Setup, Call, refusalOf, momentOf, verdict, stepOf}
-use Rattle.promises.specs.Conditions.{RowSound, StretchRight}
+use Rattle.monitor.specs.Event.{Moment, spansAfter, truthOf, truthsAfter, spansJudged, spansNow, recordAfter, storeAfter}
+use Rattle.monitor.specs.Step.{Setup, Call, timeOf, refusalOf, momentOf, verdictOf, verdict, clockMoved, acceptedReply, stepOf}
+use Rattle.promises.specs.Conditions.{Ready, RecordRight}
 use Rattle.promises.specs.SoundIsKept.{Sized}
 use Rattle.promises.specs.Spans.{InOrOut}
-use Rattle.promises.specs.OneEvent.{LaysOut, BelongsAfter, OneEvent, OneEventFromAny}
+use Rattle.promises.specs.OneEvent.{LaysOut, BelongsAfter, OneEvent, OneEventFromAny, OneHeartbeat, OnlyClockMoved, HeartbeatFromAny}
 use Rattle.promises.proofs.TableRefusals.{table-passes}
-use Rattle.promises.proofs.StretchTold.{in-range-of, row-stored}
-use Rattle.promises.proofs.RecordTold.{all-stretches}
+use Rattle.promises.proofs.StretchTold.{in-range-of}
 use Rattle.promises.proofs.RowsAfter.{row-laid}
-use Rattle.promises.proofs.SoundAfter.{room-after}
-use Rattle.promises.proofs.SoundIsKept.{verdict-passes}
+use Rattle.promises.proofs.SoundAfter.{room-after, found-laid, found-is, found-sound}
+use Rattle.promises.proofs.SoundIsKept.{accepted-passes}
 use Rattle.promises.proofs.Refusing.{Accepted, accepted-of}
 use Rattle.promises.proofs.UpdateLaws.{update-rising, update-in, sound-rising, clipped-under}
 
@@ -46,6 +44,37 @@ use Rattle.promises.proofs.UpdateLaws.{update-rising, update-in, sound-
 test-in-or-out : (inside : Bool) {test : Bool} {Inside : Type 0} → Tells test Inside → T (taken not inside test) ↔ InOrOut inside Inside
 test-in-or-out true told = (told .sound, told .complete)
 test-in-or-out false told = (tells-not told .sound, tells-not told .complete)
+
+-- By what is answered it was an event, or a heartbeat.
+module _ (setup : Setup) (m : Moment) where
+  verdict-event : (holds : Bool) → acceptedReply setup m ≡ verdict holds → heartbeat? (m .mask) ≡ false
+  verdict-event holds said = go (heartbeat? (m .mask)) said
+    where
+      go : (beat : Bool) → cond beat clockMoved (verdict (verdictOf setup (recordAfter m .truths))) ≡ verdict holds → beat ≡ false
+      go true e = let clash : _≡_ {A = ℕ} 0 1 = cc in absurd (omega arith)
+      go false e = refl
+
+  moved-heartbeat : acceptedReply setup m ≡ clockMoved → heartbeat? (m .mask) ≡ true
+  moved-heartbeat said = go (heartbeat? (m .mask)) said
+    where
+      go : (beat : Bool) → cond beat clockMoved (verdict (verdictOf setup (recordAfter m .truths))) ≡ clockMoved → beat ≡ true
+      go true e = refl
+      go false e = let clash : _≡_ {A = ℕ} 0 1 = cc in absurd (omega arith)
+
+-- The spans found are laid out, and rise from the clock.
+module _
+    (m : Moment)
+    (ready : Ready (m .table) (length (m .store)))
+    (right : RecordRight (m .table) (m .store) (m .found))
+    (risen : clockOf (m .found) ≤ m .time)
+    (row : ℕ)
+    (lower : row < rowsOf (m .table))
+  where
+    spans-laid : LaysOut (m .table) row (m .store) (m .found) (spansFound (m .table) (m .store) (m .found) row)
+    spans-laid = rw (found-is m ready right risen row lower) (found-laid m ready right risen row lower .laid)
+
+    found-rising : Rising (clockOf (m .found)) (spansFound (m .table) (m .store) (m .found) row)
+    found-rising = sound-rising (clockOf (m .found)) _ _ _ _ (found-sound m ready right risen row lower)
 
 module _
     (setup : Setup)
@@ -72,7 +101,11 @@ module _
 
     unrefused : refusalOf setup store found c ≡ none
     unfolding stepOf
-    unrefused = verdict-passes setup store found m (refusalOf setup store found c) holds judged
+    unrefused = accepted-passes setup store found m (refusalOf setup store found c) (rw judged tt)
+
+    no-beat : heartbeat? (m .mask) ≡ false
+    unfolding stepOf
+    no-beat = verdict-event setup m holds (rw unrefused at judged)
 
     accepted : Accepted setup store found c
     accepted = accepted-of setup store found c unrefused
@@ -90,24 +123,17 @@ module _
     order : n .a ≤End endOf (n .b)
     order = range-order (n .a) (n .b) range
 
-    kept : StretchRight (setup .table) store found row
-    kept = all-stretches (setup .table) store (accepted .ready) found (accepted .sound) row lower
+    before-laid : LaysOut (setup .table) row store found S
+    before-laid = spans-laid m (accepted .ready) (accepted .sound) (accepted .risen) row lower
 
-    found-is : S ≡ kept .spans
-    found-is = laid-read (kept .laid) (row-stored n (clockOf found) (eventTime found) (kept .spans) (accepted .sound .limit) range (kept .sound))
-
-    found-laid : LaysOut (setup .table) row store found S
-    found-laid = rw found-is (kept .laid)
-
-    found-sound : RowSound n (clockOf found) (eventTime found) S
-    found-sound = rw found-is (kept .sound)
-
-    found-rising : Rising (clockOf found) S
-    found-rising =
-        sound-rising (clockOf found) (eventTime found + n .a) (eventTime found +End endOf (n .b)) (lengthOf (n .a) (endOf (n .b))) S found-sound
+    found-rises : Rising (clockOf found) S
+    found-rises = found-rising m (accepted .ready) (accepted .sound) (accepted .risen) row lower
 
     found-under : Under (m .time + n .a) (m .time +End endOf (n .b)) (clip (m .time) S)
-    found-under = clipped-under (clockOf found) (m .time) (eventTime found) (n .a) (endOf (n .b)) S order (accepted .risen) (accepted .risen) found-sound
+    found-under =
+        clipped-under (clockOf found) (m .time) (eventTime found) (n .a) (endOf (n .b)) S order (accepted .risen)
+        (omega (arith, accepted .risen, accepted .sound .order))
+        (found-sound m (accepted .ready) (accepted .sound) (accepted .risen) row lower)
 
     has-entry : (r : ℕ) → r < rowsOf (setup .table) → r < length (found .truths)
     has-entry r known = omega (arith, accepted .ready .right .lengths .most, sized .truths)
@@ -131,37 +157,41 @@ module _
     feeds-stay : fedBy not (truthAt (truthsAfter m (rowsOf (setup .table)))) n columns ≡ feeds
     feeds-stay = ap (taken not (columns .when)) (truth-stays (feeder (columns .feed) n) (names .1))
 
-    now-rising : Rising (m .time) (spansNow m row)
+    now-rising : Rising (m .time) (spansJudged m row)
     unfolding spansAfter
     now-rising =
         rw since
-        (update-rising (clockOf found) (m .time) (n .a) (endOf (n .b)) S order found-rising found-under keeps
+        (update-rising (clockOf found) (m .time) (n .a) (endOf (n .b)) S order found-rises found-under keeps
         feeds)
 
-    now-exact : (u : ℕ) → In u (spansNow m row) ↔ BelongsAfter (setup .table) row columns (recordAfter m) (m .time) S u
+    now-exact : (u : ℕ) → In u (spansJudged m row) ↔ BelongsAfter (setup .table) row columns (recordAfter m) (m .time) S u
     unfolding spansAfter recordAfter
     now-exact u =
-        rw (since, keeps-stay, feeds-stay)
-        (update-in (clockOf found) (m .time) (n .a) (endOf (n .b)) S order found-rising found-under keeps
+        rw (since, no-beat, keeps-stay, feeds-stay)
+        (update-in (clockOf found) (m .time) (n .a) (endOf (n .b)) S order found-rises found-under keeps
         feeds u)
 
-    now-true : T (truthAt (recordAfter m .truths) row) ↔ InOrOut (columns .inside) (In (m .time) (spansNow m row))
+    now-true : T (truthAt (recordAfter m .truths) row) ↔ InOrOut (columns .inside) (In (m .time) (spansJudged m row))
     unfolding recordAfter truthOf
     now-true =
-        rw (truth-told m (rowsOf (setup .table)) row lower (has-entry row lower), since)
-        (test-in-or-out (columns .inside) (covered-told (m .time) (spansNow m row)))
+        rw (no-beat, truth-told m (rowsOf (setup .table)) row lower (has-entry row lower), since)
+        (test-in-or-out (columns .inside) (covered-told (m .time) (spansJudged m row)))
 
-    now-laid : LaysOut (setup .table) row (storeAfter m (rowsOf (setup .table))) (recordAfter m) (spansNow m row)
+    now-is : spansNow m row ≡ spansJudged m row
+    now-is = rw no-beat
+
+    now-laid : LaysOut (setup .table) row (storeAfter m) (recordAfter m) (spansJudged m row)
     now-laid =
-        row-laid m row lower (omega (arith, accepted .ready .right .lengths .most, sized .counts))
-        (room-after m (accepted .ready) (accepted .sound) (accepted .early) (accepted .risen))
+        subst (LaysOut (setup .table) row (storeAfter m) (recordAfter m)) now-is
+        (row-laid m row lower (omega (arith, accepted .ready .right .lengths .most, sized .counts))
+        (room-after m (accepted .ready) (accepted .sound) (accepted .early) (accepted .risen)))
 
     one-event : OneEvent setup store found c row columns
     unfolding stepOf
     one-event =
         record {
-          before = found-laid;
-          spans = spansNow m row;
+          before = before-laid;
+          spans = spansJudged m row;
           rising = now-rising;
           exact = rw unrefused now-exact;
           true-in = rw unrefused now-true;
@@ -170,3 +200,61 @@ module _
 
 pub one-event-from-any : OneEventFromAny
 one-event-from-any = one-event
+
+-- A heartbeat.
+module _ (setup : Setup) (store : List ℕ) (found : Record) (c : Call) (moved : stepOf setup store found c .reply ≡ clockMoved) where
+  abbrev met : Moment
+  met = momentOf setup store found c
+
+  moved-unrefused : refusalOf setup store found c ≡ none
+  unfolding stepOf
+  moved-unrefused = accepted-passes setup store found met (refusalOf setup store found c) (rw moved tt)
+
+  beat : heartbeat? (met .mask) ≡ true
+  unfolding stepOf
+  beat = moved-heartbeat setup met (rw moved-unrefused at moved)
+
+  moved-accepted : Accepted setup store found c
+  moved-accepted = accepted-of setup store found c moved-unrefused
+
+  only-clock : OnlyClockMoved found (stepOf setup store found c .left) (timeOf (clockOf found) c)
+  unfolding stepOf recordAfter
+  only-clock =
+      record {
+        clock = rw moved-unrefused;
+        event = rw (moved-unrefused, beat);
+        seen = rw (moved-unrefused, beat);
+        rows = rw moved-unrefused;
+        truths = rw (moved-unrefused, beat);
+      }
+
+  module _ (row : ℕ) (sized : Sized found) (lower : row < rowsOf (setup .table)) where
+    abbrev rest : List Span
+    rest = clip (met .time) (spansFound (setup .table) store found row)
+
+    rest-is : spansNow met row ≡ rest
+    rest-is = rw beat
+
+    rest-laid : LaysOut (setup .table) row (storeAfter met) (recordAfter met) rest
+    rest-laid =
+        subst (LaysOut (setup .table) row (storeAfter met) (recordAfter met)) rest-is
+        (row-laid met row lower (omega (arith, moved-accepted .ready .right .lengths .most, sized .counts))
+        (room-after met (moved-accepted .ready) (moved-accepted .sound) (moved-accepted .early) (moved-accepted .risen)))
+
+    one-heartbeat : OneHeartbeat setup store found c row
+    unfolding stepOf
+    one-heartbeat =
+        let ready = moved-accepted .ready in
+        let right = moved-accepted .sound in
+        let rises = found-rising met ready right (moved-accepted .risen) row lower in
+        record {
+          before = spans-laid met ready right (moved-accepted .risen) row lower;
+          spans = rest;
+          rising = clip-rising (clockOf found) (met .time) _ rises;
+          exact = λ u. clip-in (clockOf found) (met .time) _ u rises;
+          laid = rw moved-unrefused rest-laid;
+        }
+
+pub heartbeat-from-any : HeartbeatFromAny
+heartbeat-from-any =
+    record { spans = λ setup store found c row sized moved lower. one-heartbeat setup store found c moved row sized lower; others = only-clock }

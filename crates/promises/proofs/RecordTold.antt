@@ -15,7 +15,7 @@ use Rattle.rules.specs.Stretches.{spansOf}
 use Rattle.monitor.specs.declared.record.Record.{Record}
 use Rattle.times.specs.Times.{timeLimit}
 use Rattle.monitor.specs.Record.{wasSeen, truthAt, clockOf, eventTime}
-use Rattle.monitor.specs.Soundness.{soundEntry?, soundRow?, zeroPast?, soundTime?, sound?}
+use Rattle.monitor.specs.Soundness.{soundEntry?, soundRow?, zeroPast?, soundTimes?, sound?}
 use Rattle.monitor.proofs.RecordLaws.{byte-unset}
 use Rattle.promises.specs.Conditions.{Ready, StretchRight, RecordRight}
 use Rattle.promises.proofs.Deciding.{tells-and-then, tells-every, tells-flag, set-or, or-unset}
@@ -32,20 +32,21 @@ Blank found row = (getD (found .truths) row 0 ≡ 0) × (getD (found .counts) ro
 unset-at : (truths : List ℕ) (row : ℕ) → getD truths row 0 ≡ 0 → truthAt truths row ≡ false
 unset-at truths row none = rw none refl
 
--- What the test asks of the time, of a row of the table, and of what stands past the rows.
-record TimeRight (found : Record) : Type 0 where
+-- What the test asks of the times, of a row of the table, and of what stands past the rows.
+record TimesRight (found : Record) : Type 0 where
   byte : found .seen ≤ 1
-  unseen : T (wasSeen found) ⊎ (clockOf found ≡ 0)
+  order : eventTime found ≤ clockOf found
   limit : clockOf found ≤ timeLimit
+  unseen : T (wasSeen found) ⊎ (eventTime found ≡ 0)
 
-time-told : (found : Record) → Tells (soundTime? (found .seen) (clockOf found)) (TimeRight found)
-time-told found =
+times-told : (found : Record) → Tells (soundTimes? (found .seen) (clockOf found) (eventTime found)) (TimesRight found)
+times-told found =
     tells-same
-    (λ h. record { byte = h .0 .0; unseen = h .0 .1; limit = h .1 })
-    (λ time. ((time .byte, time .unseen), time .limit))
+    (λ h. record { byte = h .0 .0 .0; order = h .0 .0 .1; limit = h .0 .1; unseen = h .1 })
+    (λ times. (((times .byte, times .order), times .limit), times .unseen))
     (tells-and
-    (tells-and (tells-leb (found .seen) 1) (tells-or (tells-flag (wasSeen found)) (tells-eqb (clockOf found) 0)))
-    (tells-leb (clockOf found) timeLimit))
+    (tells-and (tells-and (tells-leb (found .seen) 1) (tells-leb (eventTime found) (clockOf found))) (tells-leb (clockOf found) timeLimit))
+    (tells-or (tells-flag (wasSeen found)) (tells-eqb (eventTime found) 0)))
 
 record EntryRight (table : List ℕ) (found : Record) (row : ℕ) : Type 0 where
   byte : getD (found .truths) row 0 ≤ 1
@@ -73,7 +74,7 @@ past-told table found row = tells-or (tells-ltb row (rowsOf table)) (blank-told 
 -- What it asks of the record, in its order.
 record Tested (table store : List ℕ) (found : Record) : Type 0 where
   count : found .rows ≡ rowsOf table
-  time : TimeRight found
+  times : TimesRight found
   rows : (row : ℕ) → row < rowsOf table → EntryRight table found row × StretchRight table store found row
   past : (row : ℕ) → row < rowLimit → (row < rowsOf table) ⊎ Blank found row
 
@@ -89,12 +90,12 @@ module _ (table store : List ℕ) (ready : Ready table (length store)) (found : 
   unfolding sound?
   test-told =
       tells-same
-      (λ h. record { count = h .0 .0 .0; time = h .0 .0 .1; rows = h .0 .1; past = h .1 })
-      (λ tested. (((tested .count, tested .time), tested .rows), tested .past))
+      (λ h. record { count = h .0 .0 .0; times = h .0 .0 .1; rows = h .0 .1; past = h .1 })
+      (λ tested. (((tested .count, tested .times), tested .rows), tested .past))
       (tells-and
       (tells-and-then
-      (tells-and (tells-eqb (found .rows) (rowsOf table)) (time-told found))
-      (λ before. tells-every (rowsOf table) (soundRow? table store found) _ (row-told (before .1 .limit))))
+      (tells-and (tells-eqb (found .rows) (rowsOf table)) (times-told found))
+      (λ before. tells-every (rowsOf table) (soundRow? table store found) _ (row-told (omega (arith, before .1 .order, before .1 .limit)))))
       (tells-every rowLimit (zeroPast? (rowsOf table) (found .truths) (found .counts)) _ (λ row lower. past-told table found row)))
 
   -- A row is one of the table's, or nothing is said of it.
@@ -116,12 +117,13 @@ module _ (table store : List ℕ) (ready : Ready table (length store)) (found : 
             (λ known. rw (← since-spans (numbersAt table row) since) (known .1 .count))
             (λ blank. omega (arith, blank .1))
             (row-or-blank tested row lower);
-        unseen-time = or-unset (wasSeen found) (tested .time .unseen);
+        unseen-time = or-unset (wasSeen found) (tested .times .unseen);
         unseen-rows = λ unseen row lower.
             let blank = ⊎-elim (λ known. or-unset (wasSeen found) (known .1 .unseen) unseen) (λ blank. blank) (row-or-blank tested row lower) in
             (unset-at (found .truths) row (blank .0), blank .1);
-        limit = tested .time .limit;
-        seen-byte = tested .time .byte;
+        order = tested .times .order;
+        limit = tested .times .limit;
+        seen-byte = tested .times .byte;
         truth-bytes = λ row lower. ⊎-elim (λ known. omega (arith, known .1 .byte)) (λ blank. omega (arith, blank .0)) (row-or-blank tested row lower);
         stretches = λ row lower since. tested .rows row lower .1;
       }
@@ -173,7 +175,13 @@ module _ (table store : List ℕ) (ready : Ready table (length store)) (found : 
       (λ right.
       record {
         count = right .rows;
-        time = record { byte = right .seen-byte; unseen = set-or (wasSeen found) (right .unseen-time); limit = right .limit };
+        times =
+            record {
+              byte = right .seen-byte;
+              order = right .order;
+              limit = right .limit;
+              unseen = set-or (wasSeen found) (right .unseen-time);
+            };
         rows = λ row lower. (entry-of-right right row lower, all-stretches right row lower);
         past = past-of-right right;
       })

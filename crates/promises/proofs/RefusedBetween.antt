@@ -1,23 +1,23 @@
 -- An accepted attempt is answered and leaves what the call of the stream, which is lent every word, is answered and leaves: it was lent the need, and
 -- no other word matters or is written (`spare-words`). A refused one leaves the state (`refused-leaves`). By induction over the attempts.
-use mathlib.Core.Bool.{Bool}
+use mathlib.Core.Bool.{Bool, true, false}
 use mathlib.Core.List.{List, [], _∷_, _++_, append-assoc}
 use mathlib.Core.Path.{_≡_, refl, sym, ap, subst, _∙_}
 use Prim.Native.Nat.{ℕ, _≤_}
 use native.Mathlib.Omega.{arith}
+use lib.Dec.{T}
 use lib.ListN.{length, take, drop, length-take, take-append-drop}
 use lib.Seq.{take-take, drop-append-le}
-use Rattle.refusals.specs.Refusals.{Refused}
 use Rattle.rules.specs.Stretches.{needOf}
-use Rattle.monitor.specs.Step.{setupOf, Reply, verdict, refusal, stepOf, refusalOf, momentOf}
-use Rattle.promises.specs.Stream.{State, call, next, after}
+use Rattle.monitor.specs.Step.{setupOf, Reply, stepOf, refusalOf, momentOf}
+use Rattle.promises.specs.Stream.{State, call, next, after, accepted?}
 use Rattle.promises.specs.LeftOut.{answers, end, others, otherAnswers}
 use Rattle.promises.specs.AsIfNotMade.{Attempt, attempt, leaves, attempts}
 use Rattle.promises.specs.SpareWords.{SameNeeded, Alike}
 use Rattle.promises.specs.LineTimes.{replies}
 use Rattle.promises.specs.RefusedBetween.{acceptedCalls, WithTable, AcceptedWith, RefusedBetween}
 use Rattle.promises.proofs.Refusing.{Accepted, accepted-of}
-use Rattle.promises.proofs.SoundIsKept.{verdict-passes}
+use Rattle.promises.proofs.SoundIsKept.{accepted-passes}
 use Rattle.promises.proofs.AsIfNotMade.{refused-leaves}
 use Rattle.promises.proofs.SpareWords.{spare-words}
 
@@ -35,7 +35,7 @@ put-back n size store after whole within first lent spare =
     (take-append-drop n whole)
 
 -- One accepted attempt with the stream's table.
-module _ (table : List ℕ) (s : State) (t : Attempt) (holds : Bool) (with-table : WithTable table t) (judged : attempt s t .reply ≡ verdict holds) where
+module _ (table : List ℕ) (s : State) (t : Attempt) (with-table : WithTable table t) (yes : T (accepted? (attempt s t .reply))) where
   abbrev lent : List ℕ
   lent = take (t .size) (s .store)
 
@@ -45,7 +45,7 @@ module _ (table : List ℕ) (s : State) (t : Attempt) (holds : Bool) (with-table
       let m = momentOf (setupOf table) lent (s .found) (t .made) in
       let accepted : Accepted (setupOf table) lent (s .found) (t .made) =
       accepted-of (setupOf table) lent (s .found) (t .made)
-      (verdict-passes (setupOf table) lent (s .found) m (refusalOf (setupOf table) lent (s .found) (t .made)) holds (rw with-table at judged))
+      (accepted-passes (setupOf table) lent (s .found) m (refusalOf (setupOf table) lent (s .found) (t .made)) (rw with-table at yes))
       in
       accepted .ready .room
 
@@ -66,8 +66,8 @@ module _ (table : List ℕ) (s : State) (t : Attempt) (holds : Bool) (with-table
       spare-words .call (setupOf table) (s .store) (s .store) (s .found) (t .made)
       (record { room = same-needed .other-room; other-room = same-needed .other-room; words = refl })
 
-  accepted-reply : call table s (t .made) .reply ≡ verdict holds
-  accepted-reply = sym (alike .reply) ∙ rw with-table at judged
+  accepted-reply : call table s (t .made) .reply ≡ attempt s t .reply
+  accepted-reply = rw with-table (sym (alike .reply))
 
   accepted-leaves : leaves s t ≡ next table s (t .made)
   accepted-leaves =
@@ -85,41 +85,42 @@ module _ (table : List ℕ) where
       × (end attempts s made ≡ after table s (acceptedCalls s made))
 
   -- One attempt more at the front, where so it is of the others: a refused one, then an accepted one.
-  refused-first : (s : State) (t : Attempt) (more : List Attempt) {fault : Refused}
-      → attempt s t .reply ≡ refusal fault
+  refused-first : (s : State) (t : Attempt) (more : List Attempt)
+      → accepted? (attempt s t .reply) ≡ false
       → ((from : State) → AcceptedWith table from more → Follows from more)
       → AcceptedWith table s (t ∷ more)
       → Follows s (t ∷ more)
   unfolding answers end others otherAnswers
   refused-first s t more e on with-table =
-      let left : leaves s t ≡ s = refused-leaves s t (rw e) in
+      let left : leaves s t ≡ s = refused-leaves s t e in
       let rest : Follows s more = on s (rw (e, left) at with-table) in
       (rw (e, left) (rest .0), rw (e, left) (rest .1))
 
-  accepted-first : (s : State) (t : Attempt) (more : List Attempt) (holds : Bool)
-      → attempt s t .reply ≡ verdict holds
+  accepted-first : (s : State) (t : Attempt) (more : List Attempt)
+      → accepted? (attempt s t .reply) ≡ true
       → ((from : State) → AcceptedWith table from more → Follows from more)
       → AcceptedWith table s (t ∷ more)
       → Follows s (t ∷ more)
   unfolding answers end others otherAnswers replies after
-  accepted-first s t more holds e on with-table =
+  accepted-first s t more e on with-table =
       let here : WithTable table t × AcceptedWith table (leaves s t) more = rw e at with-table in
-      let answered = accepted-reply table s t holds (here .0) e in
-      let left = accepted-leaves table s t holds (here .0) e in
+      let answered = accepted-reply table s t (here .0) (rw e tt) in
+      let left = accepted-leaves table s t (here .0) (rw e tt) in
       let rest : Follows (leaves s t) more = on (leaves s t) (here .1) in
-      (rw (e, answered, ← left) (ap (λ (given : List Reply). verdict holds ∷ given) (rest .0)), rw (e, ← left) (rest .1))
+      let ends : end attempts (leaves s t) more ≡ after table (next table s (t .made)) (acceptedCalls (leaves s t) more) = rw (← left) (rest .1) in
+      (rw (e, answered, ← left) (ap (λ (given : List Reply). attempt s t .reply ∷ given) (rest .0)), rw e ends)
 
   attempts-follow : (s : State) (made : List Attempt) → AcceptedWith table s made → Follows s made
   unfolding answers end others otherAnswers replies after
   attempts-follow s [] with-table = (refl, refl)
-  attempts-follow s (t ∷ more) with-table = go (attempt s t .reply) refl (λ from. attempts-follow from more)
+  attempts-follow s (t ∷ more) with-table = go (accepted? (attempt s t .reply)) refl (λ from. attempts-follow from more)
     where
-      go : (reply : Reply)
-          → attempt s t .reply ≡ reply
+      go : (yes : Bool)
+          → accepted? (attempt s t .reply) ≡ yes
           → ((from : State) → AcceptedWith table from more → Follows from more)
           → Follows s (t ∷ more)
-      go (verdict holds) e on = accepted-first s t more holds e on with-table
-      go (refusal fault) e on = refused-first s t more e on with-table
+      go true e on = accepted-first s t more e on with-table
+      go false e on = refused-first s t more e on with-table
 
 pub refused-between : RefusedBetween
 refused-between table s made with-table =
@@ -127,7 +128,7 @@ refused-between table s made with-table =
     record {
       same-answers = follow .0;
       same-state = follow .1;
-      next = λ t holds is-table judged.
-          subst (λ (from : State). call table from (t .made) .reply ≡ verdict holds) (follow .1)
-          (accepted-reply table (end attempts s made) t holds is-table judged);
+      next = λ t is-table yes.
+          subst (λ (from : State). call table from (t .made) .reply ≡ attempt (end attempts s made) t .reply) (follow .1)
+          (accepted-reply table (end attempts s made) t is-table yes);
     }

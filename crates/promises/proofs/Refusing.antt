@@ -1,14 +1,16 @@
 -- Bad input is refused by number exactly under the listed conditions, and a refused call changes nothing. For each call: what the table of refusals
 -- names is answered, what passes is not refused, and one of the two is so.
+use mathlib.Core.Bool.{Bool, true, false, cond}
 use mathlib.Core.List.{List}
 use mathlib.Core.Logic.{_⊎_, inr, _↔_, ⊎-elim, ⊎-map}
 use mathlib.Core.Option.{Option, none, some}
-use mathlib.Core.Path.{_≡_, refl}
+use mathlib.Core.Path.{_≡_, refl, sym, _∙_}
 use Prim.Native.Nat.{ℕ, _≤_, _<_}
 use native.Mathlib.Omega.{arith}
 use borrow.Author.Tests.{le-leb, lt-leb}
 use lib.ListN.{length}
 use Rattle.meaning.specs.FrameTime.{frameTime}
+use Rattle.meaning.specs.Heartbeat.{heartbeat?}
 use Rattle.meaning.proofs.SpansLaws.{le-or-lt}
 use Rattle.meaning.proofs.Tells.{tells-decided}
 use Rattle.refusals.specs.Refusals.{Refused, refused}
@@ -20,7 +22,7 @@ use Rattle.monitor.specs.Record.{nothingSeen, clockOf}
 use Rattle.monitor.specs.Ready.{readyOf}
 use Rattle.monitor.specs.Event.{Moment, recordAfter}
 use Rattle.monitor.specs.Start.{begin, startOf}
-use Rattle.monitor.specs.Step.{Setup, Call, timeOf, refusalOf, momentOf, verdictOf, verdict, refusal, outcomeBy, stepOf, at, notAt, frameTimeOf}
+use Rattle.monitor.specs.Step.{Setup, Call, timeOf, refusalOf, momentOf, verdictOf, verdict, clockMoved, refusal, acceptedReply, outcomeBy, stepOf, at, notAt, frameTimeOf}
 use Rattle.promises.specs.Conditions.{Ready, RecordRight}
 use Rattle.promises.specs.Refusing.{TableRefused, StartRefused, CallRefused, start, seven, six, five, RefusedExactly, RefusalChangesNothing}
 use Rattle.promises.proofs.Deciding.{told-true, told-false, exactly}
@@ -46,6 +48,14 @@ start-exactly table store =
     let clash : _≡_ {A = ℕ} 0 1 = cc in
     omega arith)
     (start-decided table (length store))
+
+-- What an accepted call is answered is no refusal.
+unrefused : (setup : Setup) (m : Moment) (fault : Refused) → ¬ (acceptedReply setup m ≡ refusal fault)
+unrefused setup m fault = go (heartbeat? (m .mask))
+  where
+    go : (beat : Bool) → ¬ (cond beat clockMoved (verdict (verdictOf setup (recordAfter m .truths))) ≡ refusal fault)
+    go true same = let clash : _≡_ {A = ℕ} 0 1 = cc in omega arith
+    go false same = let clash : _≡_ {A = ℕ} 0 1 = cc in omega arith
 
 -- No condition on a call fails.
 pub record Accepted (setup : Setup) (store : List ℕ) (found : Record) (c : Call) : Type 0 where
@@ -124,9 +134,8 @@ module _ (setup : Setup) (store : List ℕ) (found : Record) (c : Call) where
       (λ fault wrong. rw (call-refuses fault wrong))
       (λ accepted fault e.
       let m = momentOf setup store found c in
-      let judged : stepOf setup store found c .reply ≡ verdict (verdictOf setup (recordAfter m .truths)) = rw (call-passes accepted) in
-      let clash : _≡_ {A = ℕ} 0 1 = cc in
-      omega arith)
+      let replied : stepOf setup store found c .reply ≡ acceptedReply setup m = rw (call-passes accepted) in
+      unrefused setup m fault (sym replied ∙ e))
       call-decided
 
 time-exactly : (last counter : ℕ) (fault : Refused) → (frameTimeOf last counter ≡ notAt fault) ↔ ((timeLimit < last) × (fault ≡ refused Late))
@@ -148,7 +157,7 @@ refused-exactly = record { check = check-exactly; start = start-exactly; call = 
 outcome-refused : (setup : Setup) (store : List ℕ) (found : Record) (m : Moment) (o : Option Refused) (fault : Refused)
     → outcomeBy setup store found m o .reply ≡ refusal fault
     → (outcomeBy setup store found m o .left ≡ found) × (outcomeBy setup store found m o .store ≡ store)
-outcome-refused setup store found m none fault e = let clash : _≡_ {A = ℕ} 0 1 = cc in absurd (omega arith)
+outcome-refused setup store found m none fault e = absurd (unrefused setup m fault e)
 outcome-refused setup store found m (some first) fault e = (refl, refl)
 
 begin-refused : (store : List ℕ) (said : CheckReply) (fault : Refused)

@@ -19,7 +19,7 @@ use Rattle.promises.specs.Spans.{RowRuns}
 use Rattle.promises.specs.Room.{NeverShortOfRoom}
 use Rattle.promises.proofs.Invariant.{Invariant}
 use Rattle.promises.proofs.SpannedLaws.{spanned-enough}
-use Rattle.promises.proofs.InvariantLaws.{passes}
+use Rattle.promises.proofs.InvariantLaws.{past, passes}
 use Rattle.promises.proofs.CallKept.{refused-only}
 use Rattle.promises.proofs.StreamKept.{stream-kept}
 
@@ -45,7 +45,7 @@ module _ (table store : List ℕ) (starts : Starts table store) (calls : List Ca
       → length S ≤ spansOf (numbersAt table row)
   runs-enough row columns S known since runs =
       rw since
-      (spanned-enough table row (history calls) (clock calls) (stream .ordered)
+      (spanned-enough table row (history calls) (clock calls) (stream .ordered) (past stream)
       (passes stream .good row known .limits)
       (stretch columns) S runs)
 

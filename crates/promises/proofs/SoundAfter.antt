@@ -1,10 +1,12 @@
--- An event at a sound record: whatever the truths, each row's spans after it are sound and have room, whether or not a stream reaches the record.
-use mathlib.Core.Bool.{true, not}
+-- A call at a sound record: whatever the truths, each row's spans after it are sound and have room, whether or not a stream reaches the record.
+use mathlib.Core.Bool.{Bool, true, false, cond, not}
 use mathlib.Core.List.{List}
-use Prim.Native.Nat.{ℕ, _+_, _≤_, _<_}
+use mathlib.Core.Path.{_≡_}
+use Prim.Native.Nat.{ℕ, _+_, _≤_, _<_, max}
 use native.Mathlib.Omega.{arith}
 use lib.ListN.{length}
 use Rattle.meaning.specs.Interval.{endOf, _+End_}
+use Rattle.meaning.specs.Heartbeat.{heartbeat?}
 use Rattle.meaning.specs.Spans.{Span}
 use Rattle.meaning.specs.Sound.{lengthOf}
 use Rattle.meaning.proofs.SoundLaws.{none-sound}
@@ -15,12 +17,12 @@ use Rattle.rules.specs.declared.numbers.Numbers.{Numbers}
 use Rattle.rules.proofs.PassedLaws.{InRange, range-order}
 use Rattle.times.specs.Times.{timeLimit}
 use Rattle.monitor.specs.Record.{truthAt, spansFound, clockOf, eventTime}
-use Rattle.monitor.specs.Event.{Moment, spansBy, spansAfter, truthsAfter, spansNow}
+use Rattle.monitor.specs.Event.{Moment, spansBy, spansAfter, truthsAfter, spansJudged, spansClipped, heartbeatElse, spansNow}
 use Rattle.spans.proofs.LayoutLaws.{laid-read}
-use Rattle.meaning.proofs.SoundKept.{sound-kept}
+use Rattle.meaning.proofs.SoundKept.{clip-sound, sound-kept}
 use Rattle.monitor.proofs.ReadyLaws.{ready-gives}
 use Rattle.monitor.proofs.EventLaws.{Room}
-use Rattle.monitor.proofs.AcceptedLaws.{Accepted, row-enough}
+use Rattle.monitor.proofs.AcceptedLaws.{Accepted, now-enough}
 use Rattle.promises.specs.Conditions.{Ready, RowSound, StretchRight, RecordRight}
 use Rattle.promises.proofs.Deciding.{told-true}
 use Rattle.promises.proofs.TableRefusals.{start-passes}
@@ -47,8 +49,8 @@ pub room-after : (m : Moment)
     → RecordRight (m .table) (m .store) (m .found)
     → m .time ≤ timeLimit
     → clockOf (m .found) ≤ m .time
-    → Room m (rowsOf (m .table))
-room-after m ready right early risen row lower = row-enough m (monitor-met m ready right early risen) row lower (truthsAfter m row)
+    → Room (m .table) (spansNow m) (rowsOf (m .table))
+room-after m ready right early risen = now-enough m (monitor-met m ready right early risen)
 
 module _
     (m : Moment)
@@ -64,21 +66,51 @@ module _
     abbrev before : List Span
     before = spansFound (m .table) (m .store) (m .found) row
 
+    -- The clock, and the last event's time, as found.
+    abbrev clock : ℕ
+    clock = clockOf (m .found)
+
+    abbrev event : ℕ
+    event = eventTime (m .found)
+
     range : InRange (n .a) (n .b)
     range = in-range-of (ready .right .rows row lower .1)
 
-    found-sound : RowSound n (clockOf (m .found)) (eventTime (m .found)) before
-    found-sound =
-        let kept : StretchRight (m .table) (m .store) (m .found) row = all-stretches (m .table) (m .store) ready (m .found) right row lower in
-        rw (laid-read (kept .laid) (row-stored n (clockOf (m .found)) (eventTime (m .found)) (kept .spans) (right .limit) range (kept .sound))) (kept .sound)
+    -- The spans found are those laid out, and sound.
+    pub found-laid : StretchRight (m .table) (m .store) (m .found) row
+    found-laid = all-stretches (m .table) (m .store) ready (m .found) right row lower
+
+    pub found-is : before ≡ found-laid .spans
+    found-is =
+        laid-read (found-laid .laid)
+        (row-stored n clock event (found-laid .spans) (omega (arith, right .order, right .limit)) range (found-laid .sound))
+
+    pub found-sound : RowSound n clock event before
+    found-sound = rw found-is (found-laid .sound)
 
     by-sound : (truths : List ℕ) (rule : Rule) → RowSound n (m .time) (m .time) (spansBy (m .time) truths before n rule)
-    by-sound truths (plain says) = none-sound (m .time) (m .time + n .a) (m .time +End endOf (n .b)) (lengthOf (n .a) (endOf (n .b)))
+    by-sound truths (plain says) =
+        none-sound (m .time) (max (m .time) (m .time + n .a)) (m .time +End endOf (n .b)) (lengthOf (n .a) (endOf (n .b)))
     by-sound truths (stretch columns) =
         sound-kept (keptBy true (truthAt truths) n (columns .keep)) (fedBy not (truthAt truths) n columns)
-        (clockOf (m .found)) (m .time) (eventTime (m .found)) (n .a) (eventTime (m .found) + n .a) (m .time + n .a) (endOf (n .b)) before
-        (range-order (n .a) (n .b) range) risen risen (omega arith) (omega arith) found-sound
+        clock (m .time) event (n .a) (max clock (event + n .a)) (max (m .time) (m .time + n .a)) (endOf (n .b)) before
+        (range-order (n .a) (n .b) range) risen (omega (arith, right .order)) (omega (arith, right .order)) (omega arith) found-sound
 
-    pub now-sound : RowSound n (m .time) (m .time) (spansNow m row)
+    judged-sound : RowSound n (m .time) (m .time) (spansJudged m row)
     unfolding spansAfter
-    now-sound = by-sound (truthsAfter m row) (ruleOf n)
+    judged-sound = by-sound (truthsAfter m row) (ruleOf n)
+
+    clipped-sound : RowSound n (m .time) event (spansClipped (m .table) (m .store) (m .found .counts) (m .time) row)
+    clipped-sound =
+        clip-sound clock (m .time) event event (max clock (event + n .a)) (max (m .time) (event + n .a)) (lengthOf (n .a) (endOf (n .b)))
+        (endOf (n .b)) before risen (omega arith) (omega arith) (omega arith) found-sound
+
+    -- After an event, or after a heartbeat, which leaves the event's time.
+    pub now-sound : RowSound n (m .time) (heartbeatElse m event (m .time)) (spansNow m row)
+    now-sound = go (heartbeat? (m .mask))
+      where
+        go : (beat : Bool)
+            → RowSound n (m .time) (cond beat event (m .time))
+            (cond beat (spansClipped (m .table) (m .store) (m .found .counts) (m .time)) (spansJudged m) row)
+        go true = clipped-sound
+        go false = judged-sound

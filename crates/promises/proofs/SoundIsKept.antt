@@ -1,23 +1,31 @@
--- An accepted call leaves a sound record: row by row from the spans after it, which are sound and laid out.
-use mathlib.Core.Bool.{Bool, true, false}
+-- An accepted call leaves a sound record: row by row from the spans after it, which are sound and laid out; the times and truths as a heartbeat leaves
+-- them, or as an event makes them.
+use mathlib.Core.Bool.{Bool, true, false, cond}
 use mathlib.Core.List.{List}
 use mathlib.Core.Logic.{⊎-elim}
 use mathlib.Core.Option.{Option, none, some}
-use mathlib.Core.Path.{_≡_, refl, ap, _∙_}
+use mathlib.Core.Path.{_≡_, refl, sym, ap, _∙_}
 use Prim.Native.Nat.{ℕ, _≤_, _<_}
 use native.Mathlib.Omega.{arith}
+use lib.Dec.{T}
 use lib.ListN.{length, getD}
+use Rattle.meaning.specs.Heartbeat.{heartbeat?}
+use Rattle.meaning.proofs.Truths.{no-truth}
+use Rattle.meaning.specs.Spans.{clip}
+use Rattle.rules.specs.Limits.{rowLimit}
+use Rattle.spans.specs.Layout.{spansFrom, spansHeld}
 use Rattle.refusals.specs.Refusals.{Refused}
 use Rattle.rules.specs.Rows.{rowsOf, numbersAt}
 use Rattle.rules.specs.Stretches.{spansOf}
 use Rattle.monitor.specs.declared.record.Record.{Record}
 use Rattle.times.specs.Times.{timeLimit}
-use Rattle.monitor.specs.Record.{isTrue, clockOf}
-use Rattle.monitor.specs.Event.{Moment, truthOf, truthsAfter, spansNow, countsAfter, storeAfter, recordAfter}
-use Rattle.monitor.specs.Step.{Setup, refusalOf, momentOf, verdict, outcomeBy, stepOf}
+use Rattle.monitor.specs.Record.{byteOf, isTrue, wasSeen, truthAt, clockOf, eventTime, stretchAt}
+use Rattle.monitor.specs.Event.{Moment, truthOf, truthsAfter, spansNow, countsWith, recordAfter, storeAfter}
+use Rattle.monitor.specs.Step.{Setup, refusalOf, momentOf, outcomeBy, stepOf}
 use Rattle.monitor.proofs.RecordLaws.{byte-small}
 use Rattle.monitor.proofs.EventLaws.{Room, length-store}
 use Rattle.monitor.proofs.RisingLaws.{length-truths, truth-set, truth-left, length-counts, count-set, count-left}
+use Rattle.promises.specs.Stream.{accepted?}
 use Rattle.promises.specs.Conditions.{Ready, RecordRight}
 use Rattle.promises.specs.SoundIsKept.{Sized, SoundIsKept}
 use Rattle.promises.proofs.RowsAfter.{row-laid}
@@ -26,8 +34,10 @@ use Rattle.promises.proofs.RecordTold.{within-or-past}
 use Rattle.promises.proofs.SoundAfter.{now-sound, room-after}
 use Rattle.promises.proofs.Refusing.{Accepted, accepted-of}
 
-unseen-never : {A : Type 0} → true ≡ false → A
-unseen-never e = let clash : _≡_ {A = ℕ} 0 1 = cc in absurd (omega arith)
+-- Where no span is held none is left.
+none-clipped : (time : ℕ) (words : List ℕ) → length (clip time (spansHeld words (record { count = 0 }))) ≡ 0
+unfolding clip spansFrom
+none-clipped time words = refl
 
 module _
     (m : Moment)
@@ -41,42 +51,94 @@ module _
     rows = rowsOf (m .table)
 
     abbrev count : ℕ → ℕ
-    count row = getD (countsAfter m rows) row 0
+    count row = getD (countsWith (spansNow m) (m .found .counts) rows) row 0
 
-    room : Room m rows
+    room : Room (m .table) (spansNow m) rows
     room = room-after m ready right early risen
 
     has-entry : (row : ℕ) → row < rows → row < length (m .found .counts)
     has-entry row lower = omega (arith, ready .right .lengths .most, sized .counts)
 
     count-fits : (row : ℕ) → row < rows → count row ≤ spansOf (numbersAt (m .table) row)
-    count-fits row lower = rw (count-set m rows row lower (has-entry row lower)) (omega (arith, room row lower))
+    count-fits row lower = rw (count-set (spansNow m) (m .found .counts) rows row lower (has-entry row lower)) (omega (arith, room row lower))
 
-    pub sound-after : RecordRight (m .table) (storeAfter m rows) (recordAfter m)
-    unfolding recordAfter
-    sound-after =
+    -- What a heartbeat leaves of the times and the truths, and what an event makes of them.
+    record Told (seen last : ℕ) (truths : List ℕ) : Type 0 where
+      byte : seen ≤ 1
+      order : last ≤ m .time
+      unseen-time : isTrue seen ≡ false → last ≡ 0
+      unseen-row : isTrue seen ≡ false → (row : ℕ) → row < rowLimit → (truthAt truths row ≡ false) × (count row ≡ 0)
+      bytes : (row : ℕ) → row < rowLimit → getD truths row 0 ≤ 1
+      past : (row : ℕ) → rows ≤ row → row < rowLimit → truthAt truths row ≡ false
+
+    -- Before any event there is no span, and a heartbeat makes none.
+    none-made : heartbeat? (m .mask) ≡ true → wasSeen (m .found) ≡ false → (row : ℕ) → row < rowLimit → count row ≡ 0
+    none-made beat unseen row lower =
+        let none : getD (m .found .counts) row 0 ≡ 0 = right .unseen-rows unseen row lower .1 in
+        ⊎-elim
+        (λ known.
+        count-set (spansNow m) (m .found .counts) rows row known (has-entry row known)
+        ∙ rw (beat, none) (none-clipped (m .time) (stretchAt (m .table) (m .store) row)))
+        (λ past. count-left (spansNow m) (m .found .counts) rows row past ∙ none)
+        (within-or-past (m .table) row)
+
+    found-told : heartbeat? (m .mask) ≡ true → Told (m .found .seen) (eventTime (m .found)) (m .found .truths)
+    found-told beat =
         record {
-          rows = right .rows;
-          past = λ row past lower. ap isTrue (truth-left m rows row past) ∙ right .past row past lower;
-          others = λ row lower other.
-              ⊎-elim
-              (λ known. omega (arith, count-fits row known, other-spans (numbersAt (m .table) row) other))
-              (λ past. count-left m rows row past ∙ right .others row lower other)
-              (within-or-past (m .table) row);
-          within = λ row lower since.
-              ⊎-elim
-              (λ known. rw (← since-spans (numbersAt (m .table) row) since) (count-fits row known))
-              (λ past. rw (count-left m rows row past) (right .within row lower since))
-              (within-or-past (m .table) row);
-          unseen-time = unseen-never;
-          unseen-rows = unseen-never;
-          limit = early;
-          seen-byte = omega arith;
-          truth-bytes = λ row lower.
+          byte = right .seen-byte;
+          order = omega (arith, right .order);
+          unseen-time = right .unseen-time;
+          unseen-row = λ unseen row lower. (right .unseen-rows unseen row lower .0, none-made beat unseen row lower);
+          bytes = right .truth-bytes;
+          past = right .past;
+        }
+
+    made-told : Told (byteOf true) (m .time) (truthsAfter m rows)
+    made-told =
+        record {
+          byte = omega arith;
+          order = omega arith;
+          unseen-time = λ e. absurd (no-truth (sym e));
+          unseen-row = λ e. absurd (no-truth (sym e));
+          bytes = λ row lower.
               ⊎-elim
               (λ known. rw (truth-set m rows row known (omega (arith, sized .truths))) (byte-small (truthOf m row (truthsAfter m row))))
               (λ past. rw (truth-left m rows row past) (right .truth-bytes row lower))
               (within-or-past (m .table) row);
+          past = λ row past lower. ap isTrue (truth-left m rows row past) ∙ right .past row past lower;
+        }
+
+    told : Told (recordAfter m .seen) (recordAfter m .last) (recordAfter m .truths)
+    unfolding recordAfter
+    told = go (heartbeat? (m .mask)) refl
+      where
+        go : (beat : Bool) → heartbeat? (m .mask) ≡ beat
+            → Told (cond beat (m .found .seen) (byteOf true)) (cond beat (eventTime (m .found)) (m .time)) (cond beat (m .found .truths) (truthsAfter m rows))
+        go true is = found-told is
+        go false is = made-told
+
+    pub sound-after : RecordRight (m .table) (storeAfter m) (recordAfter m)
+    unfolding recordAfter
+    sound-after =
+        record {
+          rows = right .rows;
+          past = told .past;
+          others = λ row lower other.
+              ⊎-elim
+              (λ known. omega (arith, count-fits row known, other-spans (numbersAt (m .table) row) other))
+              (λ past. count-left (spansNow m) (m .found .counts) rows row past ∙ right .others row lower other)
+              (within-or-past (m .table) row);
+          within = λ row lower since.
+              ⊎-elim
+              (λ known. rw (← since-spans (numbersAt (m .table) row) since) (count-fits row known))
+              (λ past. rw (count-left (spansNow m) (m .found .counts) rows row past) (right .within row lower since))
+              (within-or-past (m .table) row);
+          unseen-time = told .unseen-time;
+          unseen-rows = told .unseen-row;
+          order = told .order;
+          limit = early;
+          seen-byte = told .byte;
+          truth-bytes = told .bytes;
           stretches = λ row lower since.
               record {
                 spans = spansNow m row;
@@ -89,26 +151,30 @@ pub sized-after : (m : Moment) → Sized (m .found) → Sized (recordAfter m)
 unfolding recordAfter
 sized-after m sized =
     record {
-      truths = length-truths m (rowsOf (m .table)) ∙ sized .truths;
-      counts = length-counts m (rowsOf (m .table)) ∙ sized .counts;
+      truths = go (heartbeat? (m .mask));
+      counts = length-counts (spansNow m) (m .found .counts) (rowsOf (m .table)) ∙ sized .counts;
     }
+  where
+    go : (beat : Bool) → length (cond beat (m .found .truths) (truthsAfter m (rowsOf (m .table)))) ≡ rowLimit
+    go true = sized .truths
+    go false = length-truths m (rowsOf (m .table)) ∙ sized .truths
 
--- A verdict is given where no condition fails.
-pub verdict-passes : (setup : Setup) (store : List ℕ) (found : Record) (m : Moment) (o : Option Refused) (holds : Bool)
-    → outcomeBy setup store found m o .reply ≡ verdict holds
+-- A call is accepted where no condition fails.
+pub accepted-passes : (setup : Setup) (store : List ℕ) (found : Record) (m : Moment) (o : Option Refused)
+    → T (accepted? (outcomeBy setup store found m o .reply))
     → o ≡ none
-verdict-passes setup store found m none holds e = refl
-verdict-passes setup store found m (some fault) holds e = let clash : _≡_ {A = ℕ} 0 1 = cc in absurd (omega arith)
+accepted-passes setup store found m none accepted = refl
+accepted-passes setup store found m (some fault) accepted = absurd accepted
 
 pub sound-is-kept : SoundIsKept
 unfolding stepOf
-sound-is-kept setup store found c holds sized e =
+sound-is-kept setup store found c sized e =
     let m = momentOf setup store found c in
-    let passes : refusalOf setup store found c ≡ none = verdict-passes setup store found m (refusalOf setup store found c) holds e in
+    let passes : refusalOf setup store found c ≡ none = accepted-passes setup store found m (refusalOf setup store found c) e in
     let accepted : Accepted setup store found c = accepted-of setup store found c passes in
-    let room : Room m (rowsOf (m .table)) = room-after m (accepted .ready) (accepted .sound) (accepted .early) (accepted .risen) in
+    let room : Room (m .table) (spansNow m) (rowsOf (m .table)) = room-after m (accepted .ready) (accepted .sound) (accepted .early) (accepted .risen) in
     record {
       sound = rw passes (sound-after m (accepted .ready) (accepted .sound) (accepted .risen) (accepted .early) sized);
       sized = rw passes (sized-after m sized);
-      size = rw passes (length-store m (rowsOf (m .table)) room (accepted .ready .room));
+      size = rw passes (length-store (m .table) (spansNow m) (m .store) (rowsOf (m .table)) room (accepted .ready .room));
     }

@@ -5,7 +5,7 @@ use Prim.Native.Nat.{ℕ, _+_, _≤_, max}
 use native.Mathlib.Omega.{arith}
 use lib.ListN.{length}
 use Rattle.meaning.specs.Interval.{endOf}
-use Rattle.meaning.specs.History.{History}
+use Rattle.meaning.specs.History.{History, lastTime}
 use Rattle.meaning.specs.Spans.{Span}
 use Rattle.meaning.proofs.HistoryLaws.{NoLater}
 use Rattle.meaning.proofs.SoundLaws.{none-sound, runs-sound}
@@ -20,29 +20,28 @@ use Rattle.promises.specs.Spans.{KeeperHolds, FeederHolds}
 use Rattle.promises.proofs.Invariant.{Spanned}
 
 module _ (table : List ℕ) (row : ℕ) (h : History) (clock : ℕ) where
-  pub spanned-sound : NoLater clock h
+  pub spanned-sound : NoLater (lastTime h) h
       → InRange (numbersAt table row .a) (numbersAt table row .b)
       → (rule : Rule) (S : List Span)
       → Spanned table row h clock rule S
-      → RowSound (numbersAt table row) clock clock S
+      → RowSound (numbersAt table row) clock (lastTime h) S
   spanned-sound ordered range (plain says) S spanned = rw spanned (none-sound _ _ _ _)
   spanned-sound ordered range (stretch columns) S spanned =
       let a = numbersAt table row .a in
       let b = endOf (numbersAt table row .b) in
-      let first : max clock (clock + a) ≡ clock + a = omega arith in
-      rw first at
-      (runs-sound (KeeperHolds table row columns) (FeederHolds table row columns) a b h clock clock S
-      (range-order a (numbersAt table row .b) range) ordered spanned)
+      runs-sound (KeeperHolds table row columns) (FeederHolds table row columns) a b h clock (lastTime h) S
+      (range-order a (numbersAt table row .b) range) ordered spanned
 
-  pub spanned-enough : NoLater clock h
+  pub spanned-enough : NoLater (lastTime h) h
+      → lastTime h ≤ clock
       → InRange (numbersAt table row .a) (numbersAt table row .b)
       → (rule : Rule) (S : List Span)
       → Spanned table row h clock rule S
       → length S ≤ spansSaid rule (numbersAt table row)
-  spanned-enough ordered range (plain says) S spanned = let empty : length S ≡ 0 = ap length spanned in omega arith
-  spanned-enough ordered range (stretch columns) S spanned =
+  spanned-enough ordered past range (plain says) S spanned = let empty : length S ≡ 0 = ap length spanned in omega arith
+  spanned-enough ordered past range (stretch columns) S spanned =
       let a = numbersAt table row .a in
-      figure-is-enough clock (clock + a) clock a (endOf (numbersAt table row .b)) S (omega arith)
+      figure-is-enough clock (max clock (lastTime h + a)) (lastTime h) a (endOf (numbersAt table row .b)) S past
       (spanned-sound ordered range (stretch columns) S spanned)
 
 pub spanned-none : (table : List ℕ) (row clock : ℕ) (rule : Rule) (S : List Span) → Spanned table row [] clock rule S → S ≡ []

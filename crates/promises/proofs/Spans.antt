@@ -4,10 +4,9 @@ use mathlib.Core.List.{List, [], _∷_}
 use mathlib.Core.Logic.{_↔_}
 use mathlib.Core.Path.{_≡_, refl, _∙_}
 use Prim.Native.Nat.{ℕ, _<_}
-use native.Mathlib.Omega.{arith}
 use lib.Dec.{T}
 use Rattle.meaning.specs.Interval.{endOf}
-use Rattle.meaning.specs.History.{Event, History, lastTime}
+use Rattle.meaning.specs.History.{History, lastTime}
 use Rattle.meaning.specs.Formula.{Formula, Holds}
 use Rattle.meaning.specs.Spans.{Span, In}
 use Rattle.meaning.proofs.RunsLaws.{runs-tell}
@@ -18,15 +17,12 @@ use Rattle.rules.specs.RowFormula.{sinceOf, formulaOf}
 use Rattle.rules.specs.declared.stretch.Stretch.{Stretch}
 use Rattle.rules.proofs.PassedLaws.{passed-formula}
 use Rattle.monitor.specs.Record.{truthAt}
-use Rattle.promises.specs.Stream.{State, state, history}
+use Rattle.promises.specs.Stream.{State, state, history, clock}
+use Rattle.promises.specs.Verdicts.{Says}
 use Rattle.promises.specs.Spans.{RowRuns, InOrOut, HoldsRuns, SpansAreTheRuns}
-use Rattle.promises.proofs.Invariant.{Says, Invariant}
+use Rattle.promises.proofs.Invariant.{Invariant}
 use Rattle.promises.proofs.InvariantLaws.{passes}
 use Rattle.promises.proofs.StreamKept.{stream-kept}
-
--- A history with an event is not empty.
-some-event : {e : Event} {h : History} → ¬ (_≡_ {A = History} (e ∷ h) [])
-some-event none = let z : _≡_ {A = ℕ} 0 1 = cc in omega arith
 
 -- A truth that says what is taken of a formula says whether the time is inside or outside, where inside tells the formula.
 truth-in-or-out : (inside : Bool) (φ : Formula) (h : History) (truth : Bool) (In? : Type 0)
@@ -55,29 +51,25 @@ module _ (table : List ℕ) (row : ℕ) (columns : Stretch) where
       (fedBy Formula.negation (formulaOf table) (numbersAt table row) columns) (numbersAt table row .a) (endOf (numbersAt table row .b)) (e ∷ h) S
       runs)
 
-  unsaid : (h : History) (truth : Bool) (φ : Formula) → Says h truth φ → h ≡ [] → truth ≡ false
-  unsaid [] truth φ says none = says
-  unsaid (e ∷ h) truth φ says none = absurd (some-event none)
-
-  module _ (h : History) (s : State) (inv : Invariant table h (lastTime h) s) (known : row < rowsOf table)
+  module _ (h : History) (clock : ℕ) (s : State) (inv : Invariant table h clock s) (known : row < rowsOf table)
       (says : ruleOf (numbersAt table row) ≡ stretch columns) where
     row-made : formulaOf table row ≡ rowFormula
     row-made = passed-formula table (rowsOf table) (needOf table) row (passes inv) known ∙ rw says
 
-    row-holds : HoldsRuns table row columns h (lastTime h) s
+    row-holds : HoldsRuns table row columns h clock s
     row-holds =
-        let runs : RowRuns table row columns h (lastTime h) (inv .follows row known .spans) = rw says at (inv .follows row known .spanned) in
+        let runs : RowRuns table row columns h clock (inv .follows row known .spans) = rw says at (inv .follows row known .spanned) in
         record {
           timed = inv .time;
           spans = inv .follows row known .spans;
           runs = runs;
           laid = inv .follows row known .laid;
-          true-in =
-              λ some. true-in-runs h (truthAt (s .found .truths) row) (inv .follows row known .spans) some
-              (rw row-made at (inv .follows row known .says)) runs;
-          not-yet = unsaid h (truthAt (s .found .truths) row) (formulaOf table row) (inv .follows row known .says);
+          at-event =
+              λ some still. rw still
+              (true-in-runs h (truthAt (s .found .truths) row) (inv .follows row known .spans) some
+              (rw row-made at (inv .follows row known .says)) (rw still at runs));
         }
 
 pub spans-are-the-runs : SpansAreTheRuns
 spans-are-the-runs table store starts calls row columns known says =
-    row-holds table row columns (history calls) (state table store calls) (stream-kept table store starts calls) known says
+    row-holds table row columns (history calls) (clock calls) (state table store calls) (stream-kept table store starts calls) known says

@@ -1,6 +1,6 @@
 -- A call and a start look only at the words of the need. Row by row: each stretch lies within the need, so the spans found are the same, and with
 -- them the test of soundness and what the event leaves.
-use mathlib.Core.Bool.{Bool}
+use mathlib.Core.Bool.{Bool, true, false, cond}
 use mathlib.Core.List.{List}
 use mathlib.Core.Logic.{⊎-elim}
 use mathlib.Core.Option.{Option, none, some}
@@ -11,6 +11,7 @@ use borrow.Author.Tests.{le-leb}
 use lib.ListN.{length, take, drop, replicate, length-replicate}
 use lib.Seq.{length-take-le, take-take, take-add, take-at, drop-at}
 use Rattle.refusals.specs.Refusals.{Refused}
+use Rattle.meaning.specs.Heartbeat.{heartbeat?}
 use Rattle.rules.specs.Rows.{rowsOf, numbersAt}
 use Rattle.rules.specs.Stretches.{width, offset, needOf}
 use Rattle.rules.specs.Table.{CheckReply, passed, refusedBy}
@@ -20,7 +21,7 @@ use Rattle.monitor.specs.Record.{stretchAt, clockOf}
 use Rattle.monitor.specs.Soundness.{every, soundRow?, sound?}
 use Rattle.monitor.specs.Ready.{readyOf}
 use Rattle.monitor.specs.Start.{startOf}
-use Rattle.monitor.specs.Event.{Moment, spansAfter, truthOf, truthsAfter, spansNow, countsAfter, wordsDone, recordAfter}
+use Rattle.monitor.specs.Event.{Moment, spansAfter, truthOf, truthsAfter, spansJudged, spansClipped, spansNow, countsWith, wordsDone, recordAfter}
 use Rattle.monitor.specs.Step.{Setup, Call, timeOf, maskOf, refusalOf, momentOf, stepOf}
 use Rattle.monitor.proofs.EventLaws.{spans-same, truth-same, Room, words-done, words-left}
 use Rattle.promises.specs.SpareWords.{SameNeeded, Alike, BegunAlike, SpareWords}
@@ -101,14 +102,20 @@ module _ (setup : Setup) (store other : List ℕ) (found : Record) (c : Call) (a
   same-truths (suc n) within = rw (same-truths n (omega arith), same-truth n (truthsAfter m′ n) within)
 
   same-now : (row : ℕ) → row < rowsOf (setup .table) → spansNow m row ≡ spansNow m′ row
-  same-now row lower = rw (same-truths row (omega arith)) (same-spans row (truthsAfter m′ row) lower)
+  same-now row lower = go (heartbeat? (maskOf c))
+    where
+      go : (beat : Bool)
+          → cond beat (spansClipped (setup .table) store (found .counts) time) (spansJudged m) row
+          ≡ cond beat (spansClipped (setup .table) other (found .counts) time) (spansJudged m′) row
+      go true = rw (same-stretch (setup .table) store other alike row lower)
+      go false = rw (same-truths row (omega arith)) (same-spans row (truthsAfter m′ row) lower)
 
-  same-counts : (n : ℕ) → n ≤ rowsOf (setup .table) → countsAfter m n ≡ countsAfter m′ n
-  unfolding countsAfter
+  same-counts : (n : ℕ) → n ≤ rowsOf (setup .table) → countsWith (spansNow m) (found .counts) n ≡ countsWith (spansNow m′) (found .counts) n
+  unfolding countsWith
   same-counts zero within = refl
   same-counts (suc n) within = rw (same-counts n (omega arith), same-now n within)
 
-  same-done : (n : ℕ) → n ≤ rowsOf (setup .table) → wordsDone m n ≡ wordsDone m′ n
+  same-done : (n : ℕ) → n ≤ rowsOf (setup .table) → wordsDone (setup .table) (spansNow m) n ≡ wordsDone (setup .table) (spansNow m′) n
   unfolding wordsDone
   same-done zero within = refl
   same-done (suc n) within = rw (same-done n (omega arith), same-now n within)
@@ -123,13 +130,17 @@ module _ (setup : Setup) (store other : List ℕ) (found : Record) (c : Call) (a
       let counts = same-counts rows (omega arith) in
       let first : Accepted setup store found c = accepted-of setup store found c e in
       let second : Accepted setup other found c = accepted-of setup other found c e′ in
-      let room : Room m rows = room-after m (first .ready) (first .sound) (first .early) (first .risen) in
-      let room′ : Room m′ rows = room-after m′ (second .ready) (second .sound) (second .early) (second .risen) in
+      let room : Room (setup .table) (spansNow m) rows = room-after m (first .ready) (first .sound) (first .early) (first .risen) in
+      let room′ : Room (setup .table) (spansNow m′) rows = room-after m′ (second .ready) (second .sound) (second .early) (second .risen) in
       record {
         reply = rw (e, e′, truths);
         left = rw (e, e′, truths, counts);
-        needed = rw (e, e′) (words-done m rows room ∙ same-done rows (omega arith) ∙ sym (words-done m′ rows room′));
-        spare = rw e (words-left m rows room);
+        needed =
+            rw (e, e′)
+            (words-done (setup .table) (spansNow m) store rows room
+            ∙ same-done rows (omega arith)
+            ∙ sym (words-done (setup .table) (spansNow m′) other rows room′));
+        spare = rw e (words-left (setup .table) (spansNow m) store rows room);
       }
 
   call-alike : Alike setup store other found c

@@ -107,6 +107,7 @@ module _ (table store : List ℕ) (starts : Starts table store) where
         within = λ row inside since. rw (zero-at rowLimit row) (omega arith);
         unseen-time = λ unseen. refl;
         unseen-rows = λ unseen row inside. (false-at rowLimit row, zero-at rowLimit row);
+        order = omega arith;
         limit = omega arith;
         seen-byte = omega arith;
         truth-bytes = λ row inside. omega (arith, zero-at rowLimit row);
@@ -117,8 +118,8 @@ module _ (table store : List ℕ) (starts : Starts table store) where
   unfolding nothingSeen NoLater
   start-fresh =
       record {
-        now = refl;
         ordered = tt;
+        event = refl;
         time = refl;
         seen = refl;
         ready = rw fresh-length (start-ready table store starts);

@@ -4,7 +4,7 @@ use mathlib.Core.Bool.{Bool, false, _||_, Bool·beq}
 use mathlib.Core.List.{List, []}
 use mathlib.Core.Logic.{_⊎_, inl, inr, ⊎-elim}
 use mathlib.Core.Path.{_≡_, refl, subst}
-use Prim.Native.Nat.{ℕ, _+_, _%_, _≤_, _<_}
+use Prim.Native.Nat.{ℕ, _+_, _%_, _≤_, _<_, max}
 use native.Mathlib.Omega.{arith}
 use lib.Dec.{eqb}
 use lib.ListN.{length, getD, List·getD-eq-default}
@@ -81,7 +81,7 @@ past-other table row right past since =
 -- Sound spans can be stored.
 pub row-stored : (n : Numbers) (now event : ℕ) (S : List Span) → event ≤ timeLimit → InRange (n .a) (n .b) → RowSound n now event S → Stored S
 row-stored n now event S within range sound =
-    sound-stored now (event + n .a) (event +End endOf (n .b)) (lengthOf (n .a) (endOf (n .b))) S
+    sound-stored now (max now (event + n .a)) (event +End endOf (n .b)) (lengthOf (n .a) (endOf (n .b))) S
     (latest-storable event (n .a) (n .b) within range) sound
 
 module _ (table store : List ℕ) (ready : Ready table (length store)) (found : Record) where
@@ -101,7 +101,7 @@ module _ (table store : List ℕ) (ready : Ready table (length store)) (found : 
       tells-same
       (λ stretch. record { spans = stretch .spans; laid = rw (← size) (stretch .laid); sound = stretch .sound })
       (λ stretch. record { spans = stretch .spans; laid = rw size (stretch .laid); sound = stretch .sound })
-      (stretch-told (stretchAt table store row) (heldAt found row) (clockOf found) (event + n .a) (event +End endOf (n .b))
+      (stretch-told (stretchAt table store row) (heldAt found row) (clockOf found) (max (clockOf found) (event + n .a)) (event +End endOf (n .b))
       (lengthOf (n .a) (endOf (n .b))) (latest-storable event (n .a) (n .b) early range))
 
   pub other-stretch : (row : ℕ) → ¬ IsSince (numbersAt table row) → getD (found .counts) row 0 ≡ 0 → StretchRight table store found row
@@ -111,5 +111,5 @@ module _ (table store : List ℕ) (ready : Ready table (length store)) (found : 
       record {
         spans = [];
         laid = record { written = rw (other-spans n other); counted = none };
-        sound = none-sound (clockOf found) (eventTime found + n .a) (eventTime found +End endOf (n .b)) (lengthOf (n .a) (endOf (n .b)));
+        sound = none-sound (clockOf found) (max (clockOf found) (eventTime found + n .a)) (eventTime found +End endOf (n .b)) (lengthOf (n .a) (endOf (n .b)));
       }

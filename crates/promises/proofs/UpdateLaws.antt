@@ -82,9 +82,9 @@ pub clipped-under : (now t event a : ℕ) (b : End) (S : List Span)
     → a ≤End b
     → now ≤ t
     → event ≤ t
-    → SoundSpans now (event + a) (event +End b) (lengthOf a b) S
+    → SoundSpans now (max now (event + a)) (event +End b) (lengthOf a b) S
     → Under (t + a) (t +End b) (clip t S)
 unfolding update
 clipped-under now t event a b S order present seen sound =
     sound-under t a b (clip t S) order
-    (sound-kept true false now t event a (event + a) (max t (t + a)) b S order present seen (omega arith) (omega arith) sound)
+    (sound-kept true false now t event a (max now (event + a)) (max t (t + a)) b S order present seen (omega arith) (omega arith) sound)

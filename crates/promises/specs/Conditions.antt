@@ -1,16 +1,17 @@
--- The conditions of document 01's table of refusals, as propositions in its words, apart from the tests that the contracts cite (`rowPasses`,
--- `limitsPass`, `sound?`).
+-- The conditions of document 01's table of refusals, as document 02 amends them, as propositions in their words, apart from the tests that the contracts
+-- cite (`rowPasses`, `limitsPass`, `sound?`).
 use mathlib.Core.Bool.{false}
 use mathlib.Core.List.{List}
 use mathlib.Core.Logic.{_⊎_}
 use mathlib.Core.Path.{_≡_}
-use Prim.Native.Nat.{ℕ, _+_, _%_, _≤_, _<_}
+use Prim.Native.Nat.{ℕ, _+_, _%_, _≤_, _<_, max}
 use lib.ListN.{length, getD}
 use Rattle.meaning.specs.Interval.{endOf, noEndNumber, _+End_}
 use Rattle.meaning.specs.Spans.{Span}
 use Rattle.meaning.specs.Sound.{SoundSpans, lengthOf}
 use Rattle.meaning.specs.Figure.{figure}
-use Rattle.rules.specs.Limits.{rowNumbers, rowLimit, maskBits, longest}
+use Rattle.meaning.specs.Heartbeat.{heartbeatBit}
+use Rattle.rules.specs.Limits.{rowNumbers, rowLimit, longest}
 use Rattle.rules.specs.Rows.{rowsOf, numbersAt}
 use Rattle.rules.specs.Stretches.{width, needOf}
 use Rattle.rules.specs.declared.numbers.Numbers.{Numbers}
@@ -25,11 +26,11 @@ pub record LengthRight (table : List ℕ) : Type 0 where
   pub least : 1 ≤ rowsOf table
   pub most : rowsOf table ≤ rowLimit
 
--- 2: "kind over 6" (over 8 by document 02, E1), "x or y not lower, bit over 31, unused not 0" is that none of these is so: the column "used" of the rule
--- table, kind by kind.
+-- 2: "kind over 6" (over 8 by document 02, E1), "x or y not lower, bit over 31" (and bit 31 itself, the heartbeat's, by E2), "unused not 0" is that none of
+-- these is so: the column "used" of the rule table, kind by kind.
 pub data RowRight (row : ℕ) (n : Numbers) : Type 0 where
   truth : n .kind ≡ 0 → n .x ≡ 0 → n .y ≡ 0 → n .a ≡ 0 → n .b ≡ 0 → RowRight row n
-  bit : n .kind ≡ 1 → n .x < maskBits → n .y ≡ 0 → n .a ≡ 0 → n .b ≡ 0 → RowRight row n
+  bit : n .kind ≡ 1 → n .x < heartbeatBit → n .y ≡ 0 → n .a ≡ 0 → n .b ≡ 0 → RowRight row n
   negation : n .kind ≡ 2 → n .x < row → n .y ≡ 0 → n .a ≡ 0 → n .b ≡ 0 → RowRight row n
   both : n .kind ≡ 3 → n .x < row → n .y < row → n .a ≡ 0 → n .b ≡ 0 → RowRight row n
   either : n .kind ≡ 4 → n .x < row → n .y < row → n .a ≡ 0 → n .b ≡ 0 → RowRight row n
@@ -64,10 +65,10 @@ SinceKind kind = (kind ≡ 6) ⊎ ((kind ≡ 7) ⊎ (kind ≡ 8))
 abbrev pub IsSince : Numbers → Type 0
 IsSince n = SinceKind (n .kind)
 
--- "in each stretch: first ≤ last; each first is at least t; .. each last is at most t+b": t is the clock for the firsts, the last event's time for the
--- latest first and last.
+-- "in each stretch: first ≤ last; .. each later first is at least the former last + 2", and "that firsts are not below the clock, and lasts not above event
+-- time + b (for 'no end', first from clock to the greater of clock and event time + a; length is asked of spans whose first is above the clock)".
 abbrev pub RowSound : Numbers → (clock event : ℕ) → List Span → Type 0
-RowSound n clock event S = SoundSpans clock (event + n .a) (event +End endOf (n .b)) (lengthOf (n .a) (endOf (n .b))) S
+RowSound n clock event S = SoundSpans clock (max clock (event + n .a)) (event +End endOf (n .b)) (lengthOf (n .a) (endOf (n .b))) S
 
 pub record StretchRight (table store : List ℕ) (found : Record) (row : ℕ) : Type 0 where
   pub spans : List Span
@@ -85,13 +86,14 @@ pub record RecordRight (table store : List ℕ) (found : Record) : Type 0 where
       → row < rowLimit
       → IsSince (numbersAt table row)
       → getD (found .counts) row 0 ≤ figure (numbersAt table row .a) (endOf (numbersAt table row .b))
-  -- "if no event was seen, time, truths and span counts are 0 or false;"
-  pub unseen-time : wasSeen found ≡ false → clockOf found ≡ 0
+  -- "if no event was seen, time, truths and span counts are 0 or false;" the time is the event's: "a record may then be sound with a clock and no event"
+  pub unseen-time : wasSeen found ≡ false → eventTime found ≡ 0
   pub unseen-rows : wasSeen found ≡ false
       → (row : ℕ)
       → row < rowLimit
       → (truthAt (found .truths) row ≡ false) × (getD (found .counts) row 0 ≡ 0)
-  -- "time is at most 281,474,976,710,655;"
+  -- "that the event time is at most the clock, the clock within the time limit", "281,474,976,710,655"
+  pub order : eventTime found ≤ clockOf found
   pub limit : clockOf found ≤ timeLimit
   -- What tells a truth is a byte that is 0 or 1.
   pub seen-byte : found .seen ≤ 1

@@ -1,6 +1,7 @@
 -- Demand 2, its second sentence, with events between the frames: "Where only frames move the time, line times equal true times if these never fall, the
 -- first is below 65,536 ms and no gap between accepted frames exceeds 65,535 ms." Events that are refused, or accepted at the present time, do not move
--- the time. Over any list of calls from a good start; `LineTimesAreTrue` is the same of frames alone.
+-- the time. The frames are all that are made, heartbeats too: the gaps between accepted frames are what the board's heartbeats keep short. Over any list of
+-- calls from a good start; `LineTimesAreTrue` is the same of frames alone.
 use mathlib.Core.List.{List, [], _∷_, _++_, map}
 use mathlib.Core.Path.{_≡_}
 use Prim.Native.Nat.{ℕ, _≤_}
@@ -8,11 +9,10 @@ use lib.Dec.{T}
 use Rattle.meaning.specs.FrameTime.{counterOf, TrueTimes}
 use Rattle.times.specs.Times.{timeLimit}
 use Rattle.monitor.specs.Step.{Call, event, frame, Reply}
-use Rattle.promises.specs.Stream.{Starts, started, Keeps, clock}
-use Rattle.promises.specs.AsIfNotMade.{judged}
+use Rattle.promises.specs.Stream.{Starts, started, accepted?, Keeps, clock}
 use Rattle.promises.specs.LineTimes.{replies, recordTimes, Every, acceptedTimes}
 
--- "only frames move the time": each event of the list that is kept is at the clock, which is the last kept time before it.
+-- "only frames move the time": each event of the list that is kept, heartbeat or not, is at the clock, which is the last kept time before it.
 abbrev pub OnlyFramesMove : List Call → Type 0
 OnlyFramesMove calls = (before later : List Call) (time mask : ℕ)
     → calls ≡ before ++ (event time mask ∷ later)
@@ -31,19 +31,20 @@ ofFrames (c ∷ calls) [] = []
 ofFrames (event time mask ∷ calls) (entry ∷ entries) = ofFrames calls entries
 ofFrames (frame counter mask ∷ calls) (entry ∷ entries) = entry ∷ ofFrames calls entries
 
--- What each frame is answered, and the record's time after it.
+-- What each frame is answered, and the record's clock after it.
 abbrev pub frameReplies : List ℕ → List ℕ → List Call → List Reply
 frameReplies table store calls = ofFrames calls (replies table (started table store) calls)
 
 abbrev pub frameTimes : List ℕ → List ℕ → List Call → List ℕ
 frameTimes table store calls = ofFrames calls (recordTimes table (started table store) calls)
 
--- Where all true times are as the demand says, and within the limit, each frame is answered with a verdict and the record's time is its true time.
--- Where those of the accepted frames are as the demand says, and the others any at all, the record's time after each accepted frame is its true time.
+-- Where all true times are as the demand says, and within the limit, each frame is accepted, with a verdict or "clock moved", and the record's clock is its true
+-- time.
+-- Where those of the accepted frames are as the demand says, and the others any at all, the record's clock after each accepted frame is its true time.
 pub record FramesTimed (table store : List ℕ) (calls : List Call) (times : List ℕ) : Type 0 where
   pub all : TrueTimes times
       → Every (λ (time : ℕ). time ≤ timeLimit) times
-      → Every (λ (reply : Reply). T (judged reply)) (frameReplies table store calls) × (frameTimes table store calls ≡ times)
+      → Every (λ (reply : Reply). T (accepted? reply)) (frameReplies table store calls) × (frameTimes table store calls ≡ times)
   pub accepted-ones : TrueTimes (acceptedTimes (frameReplies table store calls) times)
       → acceptedTimes (frameReplies table store calls) (frameTimes table store calls) ≡ acceptedTimes (frameReplies table store calls) times
 

@@ -1,5 +1,5 @@
 -- Demand 2, its second sentence: "Where only frames move the time, line times equal true times if these never fall, the first is below 65,536 ms and
--- no gap between accepted frames exceeds 65,535 ms." Over the frames of good lines, judged from a good start.
+-- no gap between accepted frames exceeds 65,535 ms." Over the frames of good lines, heartbeats too, judged from a good start.
 use mathlib.Core.Bool.{cond}
 use mathlib.Core.List.{List, [], _∷_, map}
 use mathlib.Core.Path.{_≡_}
@@ -12,11 +12,10 @@ use Rattle.monitor.specs.declared.record.Record.{Record}
 use Rattle.times.specs.Times.{timeLimit}
 use Rattle.monitor.specs.Record.{clockOf}
 use Rattle.monitor.specs.Step.{Setup, Call, frame, Reply, refusal, stepOf}
-use Rattle.promises.specs.Stream.{State, call, next, Starts, started}
-use Rattle.promises.specs.AsIfNotMade.{judged}
+use Rattle.promises.specs.Stream.{State, call, next, Starts, started, accepted?}
 use Rattle.promises.specs.TextRead.{linesRead, goodLines, framesOf, countersOf}
 
--- What each call is answered, and the record's time after it.
+-- What each call is answered, and the record's clock after it.
 unfoldable pub replies : List ℕ → State → List Call → List Reply
 replies table s [] = []
 replies table s (c ∷ calls) = call table s c .reply ∷ replies table (next table s c) calls
@@ -37,19 +36,20 @@ abbrev pub Every : {A : Type 0} → (A → Type 0) → List A → Type 0
 Every so [] = Unit
 Every so (member ∷ members) = so member × Every so members
 
--- The times of those lines that were answered with a verdict.
+-- The times of those lines that were accepted.
 unfoldable pub acceptedTimes : List Reply → List ℕ → List ℕ
 acceptedTimes [] times = []
 acceptedTimes (reply ∷ replies) [] = []
 acceptedTimes (reply ∷ replies) (time ∷ times) =
-    cond (judged reply) (time ∷ acceptedTimes replies times) (acceptedTimes replies times)
+    cond (accepted? reply) (time ∷ acceptedTimes replies times) (acceptedTimes replies times)
 
--- Where all true times are as the demand says, and within the limit, each line is answered with a verdict and the record's time is its true time.
--- Where those of the accepted lines are as the demand says, and the others any at all, the record's time after each accepted line is its true time.
+-- Where all true times are as the demand says, and within the limit, each line is accepted, with a verdict or "clock moved", and the record's clock is its true
+-- time.
+-- Where those of the accepted lines are as the demand says, and the others any at all, the record's clock after each accepted line is its true time.
 pub record LinesTimed (table store : List ℕ) (lines : List (List ℕ)) (times : List ℕ) : Type 0 where
   pub all : TrueTimes times
       → Every (λ (time : ℕ). time ≤ timeLimit) times
-      → Every (λ (reply : Reply). T (judged reply)) (lineReplies table store lines) × (lineTimes table store lines ≡ times)
+      → Every (λ (reply : Reply). T (accepted? reply)) (lineReplies table store lines) × (lineTimes table store lines ≡ times)
   pub accepted-ones : TrueTimes (acceptedTimes (lineReplies table store lines) times)
       → acceptedTimes (lineReplies table store lines) (lineTimes table store lines) ≡ acceptedTimes (lineReplies table store lines) times
 
@@ -67,7 +67,7 @@ TextTimesAreTrue = (table store text times : List ℕ)
     → countersOf (goodLines (linesRead text)) ≡ map counterOf times
     → LinesTimed table store (goodLines (linesRead text)) times
 
--- A frame's time is never below the last event's: no frame is refused 5, whatever it is judged with.
+-- A frame's time is never below the clock: no frame is refused 5, whatever it is judged with.
 abbrev pub FramesNeverEarlier : Type 0
 FramesNeverEarlier = (setup : Setup) (store : List ℕ) (found : Record) (counter mask : ℕ)
     → ¬ (stepOf setup store found (frame counter mask) .reply ≡ refusal (refused Earlier))

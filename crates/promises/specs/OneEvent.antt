@@ -1,7 +1,7 @@
--- One event from any sound record, as sets. "a since row's spans are clipped at t and ended ones dropped, then all dropped if x is now false, then t+a
+-- One event, and one heartbeat, from any sound record, as sets. "a since row's spans are clipped at t and ended ones dropped, then all dropped if x is now false, then t+a
 -- to t+b is joined in if y is true"; "An unreached but sound record, or another table that passes, is answered by the same one-event rules from the
 -- spans and truths found." For every setup, store and record, and every call that is accepted with them: the record is then sound, whether or not a
--- stream reaches it.
+-- stream reaches it. Of a heartbeat "spans are clipped at its time, truths stay those of the last true event" (document 02, E2).
 use mathlib.Core.Bool.{Bool, true, not}
 use mathlib.Core.List.{List}
 use mathlib.Core.Logic.{_↔_, _⊎_}
@@ -16,8 +16,8 @@ use Rattle.rules.specs.Stretches.{width}
 use Rattle.rules.specs.declared.stretch.Stretch.{Stretch}
 use Rattle.spans.specs.Layout.{Laid}
 use Rattle.monitor.specs.declared.record.Record.{Record}
-use Rattle.monitor.specs.Record.{truthAt, heldAt, stretchAt, spansFound, clockOf}
-use Rattle.monitor.specs.Step.{Setup, Call, timeOf, verdict, stepOf}
+use Rattle.monitor.specs.Record.{truthAt, heldAt, stretchAt, spansFound, clockOf, eventTime}
+use Rattle.monitor.specs.Step.{Setup, Call, timeOf, verdict, clockMoved, stepOf}
 use Rattle.promises.specs.SoundIsKept.{Sized}
 use Rattle.promises.specs.Spans.{InOrOut}
 
@@ -59,3 +59,30 @@ OneEventFromAny = (setup : Setup) (store : List ℕ) (found : Record) (c : Call)
     → row < rowsOf (setup .table)
     → ruleOf (numbersAt (setup .table) row) ≡ stretch columns
     → OneEvent setup store found c row columns
+
+-- A heartbeat: u belongs to a row's spans after it exactly when u belonged to them and is not before its time; they rise from there and are laid out in
+-- the words after.
+pub record OneHeartbeat (setup : Setup) (store : List ℕ) (found : Record) (c : Call) (row : ℕ) : Type 0 where
+  pub before : LaysOut (setup .table) row store found (spansFound (setup .table) store found row)
+  pub spans : List Span
+  pub rising : Rising (timeOf (clockOf found) c) spans
+  pub exact : (u : ℕ) → In u spans ↔ ((timeOf (clockOf found) c ≤ u) × In u (spansFound (setup .table) store found row))
+  pub laid : LaysOut (setup .table) row (stepOf setup store found c .store) (stepOf setup store found c .left) spans
+
+-- What it leaves of the record: the clock at its time, and all else but the span counts as found.
+pub record OnlyClockMoved (found left : Record) (time : ℕ) : Type 0 where
+  pub clock : clockOf left ≡ time
+  pub event : eventTime left ≡ eventTime found
+  pub seen : left .seen ≡ found .seen
+  pub rows : left .rows ≡ found .rows
+  pub truths : left .truths ≡ found .truths
+
+pub record HeartbeatFromAny : Type 0 where
+  pub spans : (setup : Setup) (store : List ℕ) (found : Record) (c : Call) (row : ℕ)
+      → Sized found
+      → stepOf setup store found c .reply ≡ clockMoved
+      → row < rowsOf (setup .table)
+      → OneHeartbeat setup store found c row
+  pub others : (setup : Setup) (store : List ℕ) (found : Record) (c : Call)
+      → stepOf setup store found c .reply ≡ clockMoved
+      → OnlyClockMoved found (stepOf setup store found c .left) (timeOf (clockOf found) c)

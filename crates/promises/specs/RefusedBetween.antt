@@ -5,12 +5,12 @@
 -- So demands 2 and 3 speak of them. From `started table store`, after a good start, that stream is `state table store calls` with `calls` the accepted
 -- ones: `SpansAreTheRuns` speaks of its record and words, which are those here (`same-state`), and `VerdictIsMeaning` of the verdict on each further
 -- attempt (`next`).
-use mathlib.Core.Bool.{Bool}
 use mathlib.Core.List.{List, map}
 use mathlib.Core.Path.{_≡_}
 use Prim.Native.Nat.{ℕ}
-use Rattle.monitor.specs.Step.{setupOf, Call, verdict}
-use Rattle.promises.specs.Stream.{State, call, after}
+use lib.Dec.{T}
+use Rattle.monitor.specs.Step.{setupOf, Call}
+use Rattle.promises.specs.Stream.{State, call, after, accepted?}
 use Rattle.promises.specs.LeftOut.{answers, end, others, otherAnswers}
 use Rattle.promises.specs.AsIfNotMade.{Attempt, attempt, attempts}
 use Rattle.promises.specs.LineTimes.{replies, Every}
@@ -29,11 +29,11 @@ AcceptedWith table s made = Every (WithTable table) (others attempts s made)
 pub record GoesOnAsStream (table : List ℕ) (s : State) (made : List Attempt) : Type 0 where
   pub same-answers : otherAnswers attempts (answers attempts s made) ≡ replies table s (acceptedCalls s made)
   pub same-state : end attempts s made ≡ after table s (acceptedCalls s made)
-  -- A further attempt that is answered with a verdict is answered so as the next call of the stream.
-  pub next : (t : Attempt) (holds : Bool)
+  -- A further attempt that is accepted is answered as the next call of the stream.
+  pub next : (t : Attempt)
       → WithTable table t
-      → attempt (end attempts s made) t .reply ≡ verdict holds
-      → call table (after table s (acceptedCalls s made)) (t .made) .reply ≡ verdict holds
+      → T (accepted? (attempt (end attempts s made) t .reply))
+      → call table (after table s (acceptedCalls s made)) (t .made) .reply ≡ attempt (end attempts s made) t .reply
 
 abbrev pub RefusedBetween : Type 0
 RefusedBetween = (table : List ℕ) (s : State) (made : List Attempt) → AcceptedWith table s made → GoesOnAsStream table s made

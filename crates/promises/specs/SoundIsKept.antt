@@ -1,12 +1,13 @@
--- A call that is accepted leaves a sound record, also from one that was sound but never reached.
-use mathlib.Core.Bool.{Bool}
+-- A call that is accepted, an event or a heartbeat, leaves a sound record, also from one that was sound but never reached.
 use mathlib.Core.List.{List}
 use mathlib.Core.Path.{_≡_}
 use Prim.Native.Nat.{ℕ}
+use lib.Dec.{T}
 use lib.ListN.{length}
 use Rattle.rules.specs.Limits.{rowLimit}
 use Rattle.monitor.specs.declared.record.Record.{Record}
-use Rattle.monitor.specs.Step.{Setup, Call, verdict, stepOf}
+use Rattle.monitor.specs.Step.{Setup, Call, stepOf}
+use Rattle.promises.specs.Stream.{accepted?}
 use Rattle.promises.specs.Conditions.{RecordRight}
 
 -- The record has an entry for each of the rows that a table may have, as its arrays in code always do.
@@ -22,7 +23,7 @@ pub record StaysSound (setup : Setup) (store : List ℕ) (found : Record) (c : C
 
 -- From any record that the call is accepted with: it is then sound, whether or not a stream reaches it.
 abbrev pub SoundIsKept : Type 0
-SoundIsKept = (setup : Setup) (store : List ℕ) (found : Record) (c : Call) (holds : Bool)
+SoundIsKept = (setup : Setup) (store : List ℕ) (found : Record) (c : Call)
     → Sized found
-    → stepOf setup store found c .reply ≡ verdict holds
+    → T (accepted? (stepOf setup store found c .reply))
     → StaysSound setup store found c

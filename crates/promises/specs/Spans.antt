@@ -1,5 +1,5 @@
 -- Demand 3, its runs: "After each event a row's spans are exactly the unbroken runs of present or future milliseconds its past events reach, rising,
--- a gap between each two."
+-- a gap between each two." The present is the clock ("'t' in the span rule (but for truths) and demand 3 is the clock", document 02, E2).
 use mathlib.Core.Bool.{Bool, true, false}
 use mathlib.Core.List.{List, []}
 use mathlib.Core.Logic.{_↔_}
@@ -7,7 +7,7 @@ use mathlib.Core.Path.{_≡_}
 use Prim.Native.Nat.{ℕ, _<_}
 use lib.Dec.{T}
 use Rattle.meaning.specs.Interval.{endOf}
-use Rattle.meaning.specs.History.{History}
+use Rattle.meaning.specs.History.{History, lastTime}
 use Rattle.meaning.specs.Formula.{Formula, Holds}
 use Rattle.meaning.specs.Spans.{Span, In}
 use Rattle.meaning.specs.Runs.{Runs}
@@ -39,15 +39,14 @@ abbrev pub InOrOut : Bool → Type 0 → Type 0
 InOrOut true inside = inside
 InOrOut false inside = ¬ inside
 
--- At the record's time, which is the clock, the words of the row's stretch lay out the runs, its other words are 0, its count is their number, and
--- its truth says whether the time lies in them; before any event it is no.
+-- At the clock, which the record has, the words of the row's stretch lay out the runs of the true events, its other words are 0 and its count is their
+-- number. A row's truth is about the last true event: where the clock is still at that event's time, it says whether the clock lies in the runs.
 pub record HoldsRuns (table : List ℕ) (row : ℕ) (columns : Stretch) (h : History) (clock : ℕ) (s : State) : Type 0 where
   pub timed : clockOf (s .found) ≡ clock
   pub spans : List Span
   pub runs : RowRuns table row columns h clock spans
   pub laid : Laid (width (numbersAt table row)) (stretchAt table (s .store) row) (heldAt (s .found) row) spans
-  pub true-in : ¬ (h ≡ []) → T (truthAt (s .found .truths) row) ↔ InOrOut (columns .inside) (In clock spans)
-  pub not-yet : h ≡ [] → truthAt (s .found .truths) row ≡ false
+  pub at-event : ¬ (h ≡ []) → clock ≡ lastTime h → T (truthAt (s .found .truths) row) ↔ InOrOut (columns .inside) (In clock spans)
 
 -- After the start and after every call, refused or not.
 abbrev pub SpansAreTheRuns : Type 0

@@ -1,16 +1,17 @@
 -- A stream: any list of calls, of any length, with any times, counters and masks, from a good start on a table that passes and a store of any
--- contents with at least the need. And which of its calls are kept, by their times alone.
-use mathlib.Core.Bool.{Bool, cond, _&&_}
+-- contents with at least the need. And which of its calls are kept, by their times alone, and which of these are true events, by their masks.
+use mathlib.Core.Bool.{Bool, true, false, cond, _&&_}
 use mathlib.Core.List.{List, [], _∷_, _++_}
 use mathlib.Core.Option.{none}
 use mathlib.Core.Path.{_≡_}
 use Prim.Native.Nat.{ℕ, _≤_}
 use lib.Dec.{leb}
 use Rattle.meaning.specs.History.{Event, History, lastTime}
+use Rattle.meaning.specs.Heartbeat.{Heartbeat, trueEvents}
 use Rattle.monitor.specs.declared.record.Record.{Record}
 use Rattle.times.specs.Times.{timeLimit}
 use Rattle.monitor.specs.Start.{startOf}
-use Rattle.monitor.specs.Step.{setupOf, Call, timeOf, maskOf, Outcome, stepOf}
+use Rattle.monitor.specs.Step.{setupOf, Call, timeOf, maskOf, Reply, verdict, clockMoved, refusal, Outcome, stepOf}
 
 -- What the monitor works on between two calls.
 pub record State : Type 0 where
@@ -36,41 +37,54 @@ Starts table store = startOf table store .refusal ≡ none
 abbrev pub started : List ℕ → List ℕ → State
 started table store = record { found = startOf table store .given; store = startOf table store .store }
 
--- A call is kept when its time is at most the limit and not below the last kept event's.
-pub record Keeps (last : ℕ) (c : Call) : Type 0 where
-  pub within : timeOf last c ≤ timeLimit
-  pub risen : last ≤ timeOf last c
+-- "Accepted": answered with a verdict, or with "clock moved".
+abbrev pub accepted? : Reply → Bool
+accepted? (verdict holds) = true
+accepted? clockMoved = true
+accepted? (refusal fault) = false
+
+-- A call is kept when its time is at most the limit and not below the clock.
+pub record Keeps (clock : ℕ) (c : Call) : Type 0 where
+  pub within : timeOf clock c ≤ timeLimit
+  pub risen : clock ≤ timeOf clock c
 
 abbrev pub keeps? : ℕ → Call → Bool
-keeps? last c = leb (timeOf last c) timeLimit && leb last (timeOf last c)
+keeps? clock c = leb (timeOf clock c) timeLimit && leb clock (timeOf clock c)
 
 abbrev pub eventOf : ℕ → Call → Event
-eventOf last c = record { time = timeOf last c; mask = maskOf c }
+eventOf clock c = record { time = timeOf clock c; mask = maskOf c }
 
--- The kept events of a list of calls, the newest first, after those of a history.
-unfoldable pub kept : History → List Call → History
-kept h [] = h
-kept h (c ∷ calls) = kept (cond (keeps? (lastTime h) c) (eventOf (lastTime h) c ∷ h) h) calls
+-- The kept calls of a list, heartbeats too, the newest first, after those kept before; the clock is the time of the newest, 0 before any.
+unfoldable pub kept : List Event → List Call → List Event
+kept before [] = before
+kept before (c ∷ calls) = kept (cond (keeps? (lastTime before) c) (eventOf (lastTime before) c ∷ before) before) calls
 
--- What is known of a stream so far: the monitor's state, the kept events, and the clock, which today is the last kept time.
+-- What is known of a stream so far: the monitor's state, the clock, and the history, which holds the true events alone.
 abbrev pub state : List ℕ → List ℕ → List Call → State
 state table store calls = after table (started table store) calls
 
-abbrev pub history : List Call → History
-history calls = kept [] calls
-
 abbrev pub clock : List Call → ℕ
-clock calls = lastTime (history calls)
+clock calls = lastTime (kept [] calls)
 
--- One call more: what it answers and leaves, and the history where it is kept.
+abbrev pub history : List Call → History
+history calls = trueEvents (kept [] calls)
+
+-- A heartbeat, by its mask; every other call is a true event.
+abbrev pub Beats : Call → Type 0
+Beats c = Heartbeat (maskOf c)
+
+-- One call more: what it answers and leaves, and the history where it is a true event that is kept.
 abbrev pub outcome : List ℕ → List ℕ → List Call → Call → Outcome
 outcome table store calls c = call table (state table store calls) c
 
 abbrev pub longer : List Call → Call → History
 longer calls c = eventOf (clock calls) c ∷ history calls
 
--- So it is: the state after the list with this call at its end is what the call leaves, and the history of that list is the longer one or the same.
+-- So it is: the state after the list with this call at its end is what the call leaves; a kept call moves the clock to its time, and the history of that
+-- list is the longer one at a kept true event, otherwise the same.
 pub record OneMore (table store : List ℕ) (calls : List Call) (c : Call) : Type 0 where
   pub left : state table store (calls ++ (c ∷ [])) ≡ next table (state table store calls) c
-  pub kept : Keeps (clock calls) c → history (calls ++ (c ∷ [])) ≡ longer calls c
-  pub other : ¬ Keeps (clock calls) c → history (calls ++ (c ∷ [])) ≡ history calls
+  pub moved : Keeps (clock calls) c → clock (calls ++ (c ∷ [])) ≡ timeOf (clock calls) c
+  pub event : Keeps (clock calls) c → ¬ Beats c → history (calls ++ (c ∷ [])) ≡ longer calls c
+  pub heartbeat : Keeps (clock calls) c → Beats c → history (calls ++ (c ∷ [])) ≡ history calls
+  pub other : ¬ Keeps (clock calls) c → (clock (calls ++ (c ∷ [])) ≡ clock calls) × (history (calls ++ (c ∷ [])) ≡ history calls)

@@ -10,9 +10,9 @@ use Rattle.monitor.specs.Step.{Setup, frameOf, Reply, refusal}
 use Rattle.lines.specs.Read as line
 use Rattle.lines.specs.Read.{LineReply, Read}
 use Rattle.lines.specs.Frame.{readFrame}
-use Rattle.promises.specs.Stream.{State}
+use Rattle.promises.specs.Stream.{State, accepted?}
 use Rattle.promises.specs.LeftOut.{Machine, Unchanged}
-use Rattle.promises.specs.AsIfNotMade.{Attempt, attempt, leaves, judged}
+use Rattle.promises.specs.AsIfNotMade.{Attempt, attempt, leaves}
 use Rattle.promises.specs.Reading.{Past, frameBytes}
 
 -- Where a line is read, and what its frame is attempted with.
@@ -28,7 +28,7 @@ read r = readFrame (r .text) (r .place)
 abbrev pub framed : Reading → List ℕ → Attempt
 framed r given = record { setup = r .setup; size = r .size; made = frameOf given }
 
--- "end", or a verdict or a refusal: of the line, or else of its frame.
+-- "end", or a verdict, a moved clock or a refusal: of the line, or else of its frame.
 pub data Answer : Type 0 where
   endAnswered : Answer
   replied : Reply → Answer
@@ -52,7 +52,7 @@ leftAfter s r = leftBy s r (read r .said)
 
 abbrev pub unrefused : Answer → Bool
 unrefused endAnswered = true
-unrefused (replied reply) = judged reply
+unrefused (replied reply) = accepted? reply
 
 abbrev pub readings : Machine State Reading Answer
 readings = record { answer = answer; left = leftAfter; unrefused = unrefused }

@@ -1,4 +1,4 @@
-// The one list of refusals (document 01, "Refusal numbers"). Every enum that refuses holds one of these; what leaves as plain numbers is made by
+// The one list of refusals (document 01, "Refusal numbers", as document 02 amends it). Every enum that refuses holds one of these; what leaves as plain numbers is made by
 // `number` and `row`, and only this file takes a refusal apart.
 
 ghost use mathlib.Core.Path.{_≡_};
@@ -7,13 +7,13 @@ ghost use Rattle.refusals.specs.Refusals.{numberOf, rowOf};
 pub enum Refusal {
     // 1: the table's length is not a multiple of 5, or its rows are not 1 to 64.
     Length,
-    // 2, with its row: kind over 8, x or y not lower, bit over 31, unused not 0.
+    // 2, with its row: kind over 8, x or y not lower, bit over 30, unused not 0.
     Row(u32),
     // 3, with its row: the row passes 2, but a or b is out of range.
     Limits(u32),
     // 4: the store is shorter than the need.
     Store,
-    // 5: the time is below the last event's.
+    // 5: the time is below the clock.
     Earlier,
     // 6: the time is over the limit.
     Late,

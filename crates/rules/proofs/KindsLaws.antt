@@ -8,7 +8,7 @@ use native.Mathlib.Omega.{arith}
 use native.Mathlib.Nat.{le-of-suc-le-suc, not-suc-le-zero}
 use lib.ListN.{length, getD, List·getD-map, List·getD-eq-default}
 use Rattle.meaning.proofs.Tells.{Tells, tells-ltb, tells-eqb, tells-and, tells-same}
-use Rattle.rules.specs.Limits.{maskBits}
+use Rattle.meaning.specs.Heartbeat.{heartbeatBit}
 use Rattle.rules.specs.Kinds.{Rule, plain, stretch, Kind, kind, kinds, kindAt, hasStretch, ownsStretch, columnsOf, plainOf, kindLine, fits}
 use Rattle.rules.specs.declared.plain.Plain.{Plain}
 use Rattle.rules.specs.declared.plain.Plain.the-variants as Plain
@@ -105,13 +105,13 @@ past-bare n past = rw (List·getD-eq-default kinds noLine past)
 -- What a number that fits its use is.
 abbrev pub Fits : ℕ → Use → ℕ → Type 0
 Fits r Unused number = number ≡ 0
-Fits r Bit number = number < maskBits
+Fits r Bit number = number < heartbeatBit
 Fits r Lower number = number < r
 Fits r Limit number = Unit
 
 fits-told : (r : ℕ) (usage : Use) (number : ℕ) → Tells (fits r usage number) (Fits r usage number)
 fits-told r Unused number = tells-eqb number 0
-fits-told r Bit number = tells-ltb number maskBits
+fits-told r Bit number = tells-ltb number heartbeatBit
 fits-told r Lower number = tells-ltb number r
 fits-told r Limit number = record { sound = λ _. tt; complete = λ _. tt }
 
@@ -146,16 +146,16 @@ lower-told r Bit number h fit = absurd (no-truth h)
 lower-told r Lower number h fit = fit
 lower-told r Limit number h fit = absurd (no-truth h)
 
-bit-told : (r : ℕ) (usage : Use) (number : ℕ) → isBit usage ≡ true → Fits r usage number → number < maskBits
+bit-told : (r : ℕ) (usage : Use) (number : ℕ) → isBit usage ≡ true → Fits r usage number → number < heartbeatBit
 bit-told r Unused number h fit = absurd (no-truth h)
 bit-told r Bit number h fit = fit
 bit-told r Lower number h fit = absurd (no-truth h)
 bit-told r Limit number h fit = absurd (no-truth h)
 
--- "A row may name only lower rows", and "x 0 to 31": by what the row says.
+-- "A row may name only lower rows", and "x 0 to 31", but for the heartbeat's: by what the row says.
 abbrev pub PlainNames : ℕ → Numbers → Plain → Type 0
 PlainNames r row Plain.Truth = Unit
-PlainNames r row Plain.Bit = row .x < maskBits
+PlainNames r row Plain.Bit = row .x < heartbeatBit
 PlainNames r row Plain.Negation = row .x < r
 PlainNames r row Plain.Both = (row .x < r) × (row .y < r)
 PlainNames r row Plain.Either = (row .x < r) × (row .y < r)
@@ -208,20 +208,20 @@ pub names-lower : (r : ℕ) (row : Numbers) → RowFits r row → Names r row (r
 names-lower r row fits = rule-names r row (kindAt (row .kind)) (fits .all) (ruleOf row)
     (kinds-pass (λ (n : ℕ) (k : Kind). ruleRight k (k .rule)) refl (row .kind) (fits .known))
 
--- x and y are no limits in any kind, so both are below every bound that is over 31 and not below the row.
+-- x and y are no limits in any kind, so both are below every bound that is over 30 and not below the row.
 abbrev isLimit : Use → Bool
 isLimit Unused = false
 isLimit Bit = false
 isLimit Lower = false
 isLimit Limit = true
 
-no-limit-below : (r most : ℕ) (usage : Use) (number : ℕ) → r ≤ most → maskBits ≤ most → not (isLimit usage) ≡ true → Fits r usage number → number < most
+no-limit-below : (r most : ℕ) (usage : Use) (number : ℕ) → r ≤ most → heartbeatBit ≤ most → not (isLimit usage) ≡ true → Fits r usage number → number < most
 no-limit-below r most Unused number few wide h fit = omega arith
 no-limit-below r most Bit number few wide h fit = omega arith
 no-limit-below r most Lower number few wide h fit = omega arith
 no-limit-below r most Limit number few wide h fit = absurd (no-truth h)
 
-pub x-and-y-below : (r most : ℕ) (row : Numbers) → r ≤ most → maskBits ≤ most → RowFits r row → (row .x < most) × (row .y < most)
+pub x-and-y-below : (r most : ℕ) (row : Numbers) → r ≤ most → heartbeatBit ≤ most → RowFits r row → (row .x < most) × (row .y < most)
 x-and-y-below r most row few wide fits =
     let k : Kind = kindAt (row .kind) in
     let both : (not (isLimit (k .x)) && not (isLimit (k .y))) ≡ true =

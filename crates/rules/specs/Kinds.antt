@@ -5,7 +5,7 @@ use mathlib.Core.List.{List, [], _∷_}
 use Prim.Native.Nat.{ℕ}
 use lib.Dec.{eqb, ltb}
 use lib.ListN.{length, getD}
-use Rattle.rules.specs.Limits.{maskBits}
+use Rattle.meaning.specs.Heartbeat.{heartbeatBit}
 use Rattle.rules.specs.declared.kinds.Use.{Use}
 use Rattle.rules.specs.declared.kinds.Use.the-variants.{Unused, Bit, Lower, Limit}
 use Rattle.rules.specs.declared.kinds.KindLine.{KindLine}
@@ -108,9 +108,10 @@ kindLine k =
 unfoldable pub useOf : KindLine → ℕ → Use
 useOf line field = cond (eqb field 1) (line .0) (cond (eqb field 2) (line .1) (cond (eqb field 3) (line .2) (line .3)))
 
--- "x or y not lower, bit over 31, unused not 0" is a number that does not fit its use. Limits are judged later.
+-- "x or y not lower, bit over 31, unused not 0" is a number that does not fit its use; "refusal 2 now refuses bit 31 in a rule" (document 02, E2).
+-- Limits are judged later.
 abbrev pub fits : ℕ → Use → ℕ → Bool
 fits row Unused number = eqb number 0
-fits row Bit number = ltb number maskBits
+fits row Bit number = ltb number heartbeatBit
 fits row Lower number = ltb number row
 fits row Limit number = true

@@ -1,5 +1,5 @@
 -- The numbers that bound a rule table (document 01, "The rule table" and "Spans, store and record"), each once. "No end" is `noEndNumber`
--- of the meaning.
+-- of the meaning, and a bit of a rule is below its `heartbeatBit`.
 use Prim.Native.Nat.{ℕ}
 
 -- "five per row: kind, x, y, a, b".
@@ -9,10 +9,6 @@ rowNumbers = 5
 -- "1 to 64 rows".
 abbrev pub rowLimit : ℕ
 rowLimit = 64
-
--- "x 0 to 31": the mask has this many bits.
-abbrev pub maskBits : ℕ
-maskBits = 32
 
 -- "a is 0 to 86,400,000; b is a to 86,400,000".
 abbrev pub longest : ℕ

@@ -20,7 +20,7 @@ use Rattle.rules.specs.declared.table.Checked as Answer
 unfoldable pub lengthPasses : ℕ → Bool
 lengthPasses numbers = eqb (numbers % rowNumbers) 0 && leb 1 (numbers / rowNumbers) && leb (numbers / rowNumbers) rowLimit
 
--- 2: "row: kind over 6, x or y not lower, bit over 31, unused not 0"; over 8 by document 02, E1.
+-- 2: "row: kind over 6, x or y not lower, bit over 31, unused not 0"; kind over 8 by document 02, E1, bit over 30 by E2.
 abbrev pub numbersFit : ℕ → Kind → Numbers → Bool
 numbersFit r k row = fits r (k .x) (row .x) && fits r (k .y) (row .y) && fits r (k .a) (row .a) && fits r (k .b) (row .b)
 

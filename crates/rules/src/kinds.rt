@@ -3,17 +3,17 @@
 
 ghost use mathlib.Core.Path.{_≡_};
 ghost use Rattle.rules.specs.Kinds.{kindAt, known, kindLine, useOf, fits};
-use crate::limits::MASK_BITS;
 use crate::plain::Plain;
 use crate::stretch::Feed;
 use crate::stretch::Keep;
 use crate::stretch::Stretch;
+use times::mask::HEARTBEAT_BIT;
 
 // What a number of a row is used as.
 pub enum Use {
     // Must be 0.
     Unused,
-    // A bit of the mask.
+    // A bit of the mask, but for the heartbeat's.
     Bit,
     // A lower row.
     Lower,
@@ -135,7 +135,7 @@ pub(crate) fn may_be(row: u32, usage: Use, number: u32) -> bool
 {
     match usage {
         Use::Unused => number == 0,
-        Use::Bit => number < MASK_BITS,
+        Use::Bit => number < HEARTBEAT_BIT,
         Use::Lower => number < row,
         Use::Limit => true,
     }

@@ -1,13 +1,11 @@
 // The numbers that bound a rule table (document 01, "The rule table" and "Spans, store and record"), each once.
+// A bit of a rule is below the heartbeat's, of crate `times`.
 
 // "five per row: kind, x, y, a, b".
 pub const ROW_NUMBERS: usize = 5;
 
 // "1 to 64 rows".
 pub const ROW_LIMIT: usize = 64;
-
-// "x 0 to 31": the mask has this many bits.
-pub const MASK_BITS: u32 = 32;
 
 // "a is 0 to 86,400,000; b is a to 86,400,000".
 pub const LONGEST: u32 = 86_400_000;

@@ -11,7 +11,7 @@ use lib.Seq.{drop-append-le, take-at}
 use Rattle.meaning.specs.Spans.{Span, _to_, ended, clip}
 use Rattle.spans.specs.declared.stretch.Held.{Held}
 use Rattle.spans.specs.Layout.{mark, spansFrom, spansHeld, wordsOf, spansOver, freed}
-use Rattle.spans.specs.Stretch.{endedCount, SpansWritten}
+use Rattle.spans.specs.Stretch.{endedCount, spansIn, SpansWritten, ClippedTo}
 use Rattle.spans.proofs.LayoutLaws.{Stored, ended-word, spans-next, spans-none, length-words, held-written, drop-zeros}
 
 unfoldable clipFirst : ℕ → List Span → List Span
@@ -32,6 +32,13 @@ clip-parts time ((first to last) ∷ S) = go (ended time last) refl (clip-parts 
         → clip time ((first to last) ∷ S) ≡ clipFirst time (drop (endedCount time ((first to last) ∷ S)) ((first to last) ∷ S))
     go true e h = rw e h
     go false e h = rw e refl
+
+pub clip-shorter : (time : ℕ) (S : List Span) → length (clip time S) ≤ length S
+clip-shorter time S =
+    let left : length (clip time S) ≡ length (drop (endedCount time S) S) =
+    ap length (clip-parts time S) ∙ sym (first-length time (drop (endedCount time S) S))
+    in
+    omega (arith, length-drop (endedCount time S) S)
 
 pub ended-le : (time : ℕ) (S : List Span) → endedCount time S ≤ length S
 unfolding endedCount
@@ -143,3 +150,16 @@ unfolding spansOver wordsOf
 clear-written count words =
     let none : 2 * length {A = Span} [] ≡ 0 = omega arith in
     rw none refl
+
+-- Clipping what has room is clipping what was found.
+pub clipped-found : (words : List ℕ) (held found : Held) (time : ℕ) {after : List ℕ} {left : Held}
+    → 2 * found .count ≤ length words
+    → spansHeld words found ≡ spansIn words held
+    → SpansWritten (freed (found .count) words) after left (clip time (spansHeld words found))
+    → ClippedTo words held after left time
+clipped-found words held found time room same done =
+    let count : found .count ≡ length (spansIn words held) = held-written words found room .counted ∙ ap length same in
+    record {
+      written = done .written ∙ rw (← count, ← same);
+      counted = done .counted ∙ rw same;
+    }

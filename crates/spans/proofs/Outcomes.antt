@@ -5,7 +5,7 @@ use Prim.Native.Nat.{ℕ}
 use Rattle.meaning.specs.Spans.{Span}
 use Rattle.spans.specs.declared.stretch.Held.{Held}
 use Rattle.spans.specs.declared.stretch.Updated.{Updated}
-use Rattle.spans.specs.Stretch.{UpdatedTo}
+use Rattle.spans.specs.Stretch.{UpdatedTo, ClippedTo}
 
 -- `spans::stretch::update`: the answer, and every word of what was lent.
 pub one-update : (words : List ℕ) (held : Held) (time : ℕ) (S : List Span) (updated updated′ : Updated) (after after′ : List ℕ)
@@ -16,3 +16,12 @@ one-update words held time S updated updated′ after after′ h h′ =
     let same-count : updated .held .count ≡ updated′ .held .count = h .counted ∙ sym (h′ .counted) in
     let same-told : updated .covered ≡ updated′ .covered = h .told ∙ sym (h′ .told) in
     (λ i. record { held = record { count = same-count i }; covered = same-told i }, h .written ∙ sym (h′ .written))
+
+-- `spans::stretch::clip`: the same.
+pub one-clip : (words : List ℕ) (held : Held) (time : ℕ) (left left′ : Held) (after after′ : List ℕ)
+    → ClippedTo words held after left time
+    → ClippedTo words held after′ left′ time
+    → (left ≡ left′) × (after ≡ after′)
+one-clip words held time left left′ after after′ h h′ =
+    let same-count : left .count ≡ left′ .count = h .counted ∙ sym (h′ .counted) in
+    (λ i. record { count = same-count i }, h .written ∙ sym (h′ .written))

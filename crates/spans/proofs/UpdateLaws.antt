@@ -2,7 +2,7 @@
 -- spans, it leaves a packed one.
 use mathlib.Core.Bool.{Bool, true, false, cond}
 use mathlib.Core.List.{List, [], _∷_}
-use mathlib.Core.Path.{_≡_, sym, ap, _∙_}
+use mathlib.Core.Path.{_≡_, sym, ap, subst, _∙_}
 use Prim.Native.Nat.{ℕ, _*_, _/_, _≤_}
 use native.Mathlib.Omega.{arith}
 use lib.ListN.{length, length-take}
@@ -10,7 +10,7 @@ use Rattle.meaning.specs.Spans.{Span, _to_, touches, extended, clip, join, upda
 use Rattle.spans.specs.declared.stretch.Held.{Held}
 use Rattle.spans.specs.declared.stretch.Updated.{Updated}
 use Rattle.spans.specs.Layout.{endAt, spansHeld, Laid, Packed, fitting, spansOver, freed}
-use Rattle.spans.specs.Stretch.{covered, spansIn, spansUpdated, spansKept, spansFed, SpansWritten, UpdatedTo}
+use Rattle.spans.specs.Stretch.{covered, spansIn, spansUpdated, spansKept, spansFed, SpansWritten, UpdatedTo, ClippedTo}
 use Rattle.spans.proofs.LayoutLaws.{
   Stored,
   word-back,
@@ -26,7 +26,7 @@ use Rattle.spans.proofs.LayoutLaws.{
   fitting-all,
   fit-held,
 }
-use Rattle.spans.proofs.ClipLaws.{clip-stored}
+use Rattle.spans.proofs.ClipLaws.{clip-stored, clip-shorter}
 use Rattle.spans.proofs.JoinLaws.{join-stored}
 
 kept-stored : (keep : Bool) (time : ℕ) (S : List Span) → Stored S → Stored (cond keep (clip time S) [])
@@ -120,7 +120,34 @@ module _
               told = rw (← fit) (answer ∙ ap (covered time) (written-read fed-over stored));
             }
 
--- A packed stretch that has room.
+-- Where the spans of a packed stretch are freed and others written that have room, it is packed.
+rewritten-laid : (words : List ℕ) (held : Held) (S : List Span) {after : List ℕ} {left : Held} → Packed words held → 2 * length S ≤ length words
+    → SpansWritten (freed (length (spansIn words held)) words) after left S
+    → Laid (length words) after left S
+rewritten-laid words held S laid room done =
+    let fits : 2 * held .count ≤ length words = laid-fits laid in
+    let count : held .count ≡ length (spansHeld words held) = laid .counted in
+    record {
+      written =
+          done .written
+          ∙ rw (fit-held words held fits)
+          (ap (λ (l : List ℕ). spansOver (freed (length (spansHeld words held)) l) S) (laid .written)
+          ∙ over-packed (length words) (spansHeld words held) S (omega arith) room);
+      counted = done .counted;
+    }
+
+-- A packed stretch after time alone.
+pub clip-laid : (words : List ℕ) (held : Held) (t : ℕ) {after : List ℕ} {left : Held} → Packed words held → ClippedTo words held after left t
+    → Laid (length words) after left (clip t (spansHeld words held))
+clip-laid words held t {after} {left} laid done =
+    let fits : 2 * held .count ≤ length words = laid-fits laid in
+    let count : held .count ≡ length (spansHeld words held) = laid .counted in
+    rewritten-laid words held (clip t (spansHeld words held)) laid (omega (arith, clip-shorter t (spansHeld words held))) (subst Written (fit-held words held fits) done)
+  where
+    Written : List Span → Type 0
+    Written S = SpansWritten (freed (length (spansIn words held)) words) after left (clip t S)
+
+-- After an update, one that has room.
 module _
     {words after : List ℕ}
     {held : Held}
@@ -142,16 +169,8 @@ module _
     all = rw found (fitting-all words (update x y t s (spansHeld words held)) room)
 
     pub update-laid : Laid (length words) after (updated .held) (update x y t s (spansHeld words held))
-    update-laid =
-        let count = laid .counted in
-        record {
-          written =
-              done .written
-              ∙ rw (all, found)
-              (ap (λ (l : List ℕ). spansOver (freed (length (spansHeld words held)) l) (update x y t s (spansHeld words held))) (laid .written)
-              ∙ over-packed (length words) (spansHeld words held) (update x y t s (spansHeld words held)) (omega (arith, fits)) room);
-          counted = done .counted ∙ ap length all;
-        }
+    update-laid = rewritten-laid words held (update x y t s (spansHeld words held)) laid room
+        (record { written = done .written ∙ rw all; counted = done .counted ∙ ap length all })
 
     pub update-told : updated .covered ≡ covered t (update x y t s (spansHeld words held))
     update-told = done .told ∙ ap (covered t) all

@@ -40,6 +40,10 @@ pub record SpansWritten (words after : List ℕ) (held : Held) (S : List Span) :
   pub written : after ≡ spansOver words S
   pub counted : held .count ≡ length S
 
+-- After time alone: the words of the spans found are freed, those that are left of them at the time are written, every later word stays.
+abbrev pub ClippedTo : (words : List ℕ) → Held → (after : List ℕ) → Held → (time : ℕ) → Type 0
+ClippedTo words held after left time = SpansWritten (freed (length (spansIn words held)) words) after left (clip time (spansIn words held))
+
 -- After an update: the words of the spans found are freed, those of S are written, every later word stays; the answer tells how many spans S has and
 -- whether the time lies in one.
 pub record UpdatedTo (words : List ℕ) (held : Held) (after : List ℕ) (updated : Updated) (time : ℕ) (S : List Span) : Type 0 where

@@ -12,7 +12,7 @@ ghost use lib.Dec.{eqb, leb};
 ghost use lib.ListN.{length, getD, set};
 ghost use Rattle.meaning.specs.Spans.{_to_, clip, join};
 ghost use Rattle.spans.specs.Layout.{spanWords, endAt, spansHeld, spansFrom, fitting, freed};
-ghost use Rattle.spans.specs.Stretch.{covered, endedCount, spansIn, spansUpdated, spansKept, spansFed, SpansWritten, UpdatedTo};
+ghost use Rattle.spans.specs.Stretch.{covered, endedCount, spansIn, spansUpdated, spansKept, spansFed, SpansWritten, UpdatedTo, ClippedTo};
 
 // "two words (first, last) for each span".
 pub const SPAN_WORDS: usize = 2;
@@ -52,6 +52,14 @@ pub fn update(
     Updated { held: fed, covered }
 }
 
+// Time alone, as a heartbeat moves it: the spans are clipped at the time and ended ones dropped. Of any words at all.
+pub fn clip(words: &mut [u64], held: Held, time: u64) -> Held
+    ensures { λ r. ⌜ ClippedTo (now (words .entry)) held (now (words .exit)) r time ⌝ }
+{
+    let found = fit(words, held);
+    clip_held(words, found, time)
+}
+
 // As many of the spans held as the words have room for.
 fn fit(words: &[u64], held: Held) -> Held
     ensures { λ r. ⌜ (spanWords * r .count ≤ length (now (words .entry)))
@@ -70,7 +78,7 @@ fn clip_or_clear(words: &mut [u64], held: Held, keep: bool, time: u64) -> Held
         (spansKept (now (words .entry)) held keep time) ⌝ }
 {
     if keep {
-        return clip(words, held, time);
+        return clip_held(words, held, time);
     }
     clear(words, held)
 }
@@ -102,8 +110,8 @@ fn cover(words: &[u64], held: Held, time: u64) -> bool
     false
 }
 
-// The spans are clipped at the time and ended ones dropped: later ones move down, and the words freed become 0.
-fn clip(words: &mut [u64], held: Held, time: u64) -> Held
+// The spans held are clipped: later ones move down, and the words freed become 0.
+fn clip_held(words: &mut [u64], held: Held, time: u64) -> Held
     requires { ⌜ spanWords * held .count ≤ length (now words) ⌝ }
     ensures { λ r. ⌜ SpansWritten (freed (held .count) (now (words .entry))) (now (words .exit)) r
         (clip time (spansHeld (now (words .entry)) held)) ⌝ }

@@ -25,7 +25,7 @@ use Rattle.monitor.specs.Step.{frameOf, Reply}
 use Rattle.monitor.specs.Step as step
 use Rattle.text.specs.declared.state.Part.{Part}
 use Rattle.text.specs.declared.state.Part.the-variants.{Rules, Frames, Over}
-use Rattle.text.specs.Replies.{needDigits, timeDigits, longestReply, replyLine, verdictNumber, refusalLine, refusedLine}
+use Rattle.text.specs.Replies.{needDigits, timeDigits, longestReply, replyLine, acceptedLine, refusalLine, refusedLine}
 use Rattle.text.specs.Transcript.{Running, frameJudged, replyOf, frameReply}
 use Rattle.text.specs.Held.{heldLine, holding}
 use Rattle.text.specs.Turn.{Desk, rowsRead, runningAt, startText, ruleTurn, beforeFrames, turnIn}
@@ -51,8 +51,12 @@ rule-short d atEnd = omega arith
 rule-short d (goodLine given) = omega arith
 rule-short d (badLine fault) = refusal-short (fault .number) (d .stage .rows)
 
+accepted-short : (time number : ℕ) → length (acceptedLine time number) ≤ longestReply
+accepted-short time number = reply-short timeDigits time byteDigits number (omega arith)
+
 answer-short : (time : ℕ) (reply : Reply) → length (replyOf time reply) ≤ longestReply
-answer-short time (step.verdict holds) = reply-short timeDigits time byteDigits (verdictNumber holds) (omega arith)
+answer-short time (step.verdict holds) = accepted-short time _
+answer-short time step.clockMoved = accepted-short time _
 answer-short time (step.refusal fault) = refused-short fault
 
 frame-short : (s : Running) (said : LineReply) → length (frameReply s said) ≤ longestReply

@@ -1,5 +1,5 @@
--- The lines that the program writes (document 01, "The program's text": "Output lines, each ended by a line feed").
-use mathlib.Core.Bool.{Bool, true, false}
+-- The lines that the program writes (document 01, "The program's text": "Output lines, each ended by a line feed"; document 02, E2).
+use mathlib.Core.Bool.{Bool}
 use mathlib.Core.List.{List, [], _∷_, _++_}
 use mathlib.Core.Path.{_≡_}
 use Prim.Native.Nat.{ℕ, _+_}
@@ -7,6 +7,7 @@ use lib.ListN.{length}
 use Rattle.lines.specs.Digits.{byteDigits, digits, overwritten}
 use Rattle.lines.specs.Line.{lineFeed}
 use Rattle.refusals.specs.Refusals.{Refused, rowIn}
+use Rattle.monitor.specs.Record.{byteOf}
 
 -- A line of two numbers, each in so many digits.
 unfoldable pub replyLine : (n first m second : ℕ) → List ℕ
@@ -19,16 +20,21 @@ needDigits = 8
 abbrev pub needLine : ℕ → List ℕ
 needLine need = replyLine 0 0 needDigits need
 
--- "per frame 12 digits of time and 00 or 01".
+-- "per frame 12 digits of time and 00 or 01", and for a heartbeat "the time and 02".
 abbrev pub timeDigits : ℕ
 timeDigits = 12
 
-abbrev pub verdictNumber : Bool → ℕ
-verdictNumber true = 1
-verdictNumber false = 0
+abbrev pub acceptedLine : ℕ → ℕ → List ℕ
+acceptedLine time number = replyLine timeDigits time byteDigits number
 
 abbrev pub verdictLine : ℕ → Bool → List ℕ
-verdictLine time holds = replyLine timeDigits time byteDigits (verdictNumber holds)
+verdictLine time holds = acceptedLine time (byteOf holds)
+
+abbrev pub movedNumber : ℕ
+movedNumber = 2
+
+abbrev pub movedLine : ℕ → List ℕ
+movedLine time = acceptedLine time movedNumber
 
 -- "per refusal EE, number 2 digits, row or 00".
 abbrev pub refusalMark : ℕ
@@ -41,7 +47,7 @@ refusalLine number row = digits byteDigits refusalMark ++ replyLine byteDigits n
 abbrev pub refusedLine : Refused → List ℕ
 refusedLine fault = refusalLine (fault .number) (rowIn fault)
 
--- No line is longer than a verdict's.
+-- No line is longer than an accepted frame's.
 abbrev pub longestReply : ℕ
 longestReply = timeDigits + byteDigits + 1
 

@@ -1,4 +1,4 @@
--- The whole output of the program for a whole input (document 01, "The program's text"), line by line.
+-- The whole output of the program for a whole input (document 01, "The program's text"; document 02, E2), line by line.
 use mathlib.Core.Bool.{cond}
 use mathlib.Core.List.{List, [], _∷_, _++_}
 use mathlib.Core.Option.{Option, none, some}
@@ -20,8 +20,8 @@ use Rattle.lines.specs.Rule.{readRule}
 use Rattle.monitor.specs.declared.record.Record.{Record}
 use Rattle.monitor.specs.Record.{clockOf}
 use Rattle.monitor.specs.Start.{Beginning, startOf}
-use Rattle.monitor.specs.Step.{setupOf, Call, frameOf, Reply, verdict, refusal, Outcome, stepOf}
-use Rattle.text.specs.Replies.{needLine, verdictLine, refusalLine, refusedLine}
+use Rattle.monitor.specs.Step.{setupOf, Call, frameOf, Reply, verdict, clockMoved, refusal, Outcome, stepOf}
+use Rattle.text.specs.Replies.{needLine, verdictLine, movedLine, refusalLine, refusedLine}
 
 -- "The program's store is 8,192 words."
 abbrev pub storeWords : ℕ
@@ -39,11 +39,13 @@ pub record Running : Type 0 where
 abbrev pub frameJudged : Running → Call → Outcome
 frameJudged s c = stepOf (setupOf (s .table)) (s .store) (s .found) c
 
--- "per frame 12 digits of time and 00 or 01; per refusal EE, number 2 digits, row or 00".
+-- "per frame 12 digits of time and 00 or 01", or 02 for a heartbeat; "per refusal EE, number 2 digits, row or 00".
 abbrev pub replyOf : ℕ → Reply → List ℕ
 replyOf time (verdict holds) = verdictLine time holds
+replyOf time clockMoved = movedLine time
 replyOf time (refusal fault) = refusedLine fault
 
+-- The time that is written is the clock after the frame.
 abbrev pub frameReply : Running → LineReply → List ℕ
 frameReply s atEnd = []
 frameReply s (goodLine given) = replyOf (clockOf (frameJudged s (frameOf given) .left)) (frameJudged s (frameOf given) .reply)

@@ -1,9 +1,10 @@
-// The lines that the program writes (document 01, "The program's text"), each at a place of the lent output. Whoever calls sees to the room.
+// The lines that the program writes (document 01, "The program's text"; document 02, E2), each at a place of the lent output. Whoever calls sees to
+// the room.
 
 ghost use Prim.Native.Nat.{_+_, _≤_};
 ghost use lib.ListN.{length};
 ghost use Rattle.refusals.specs.Refusals.{refused};
-ghost use Rattle.text.specs.Replies.{longestReply, replyLine, needLine, verdictLine, refusalLine, refusedLine, Wrote};
+ghost use Rattle.text.specs.Replies.{longestReply, replyLine, needLine, acceptedLine, refusalLine, refusedLine, Wrote};
 use lines::digits::write_digits;
 use refusals::refusal::Refusal;
 
@@ -17,7 +18,10 @@ const BYTE_DIGITS: usize = 2;
 // "EE", with which a refusal begins.
 const REFUSAL_MARK: u64 = 0xEE;
 
-// No line that is written is longer: "12 digits of time and 00 or 01", and the line feed.
+// The number of a heartbeat's answer, "the time and 02"; a verdict's is 00 or 01.
+pub(crate) const MOVED_NUMBER: u64 = 2;
+
+// No line that is written is longer: "12 digits of time and 00 or 01", or 02, and the line feed.
 pub const LONGEST_REPLY: usize = TIME_DIGITS + BYTE_DIGITS + 1;
 
 // "need in 8 digits".
@@ -28,15 +32,12 @@ pub(crate) fn write_need(out: &mut [u8], place: usize, need: u64) -> usize
     write_reply(out, place, 0, 0, NEED_DIGITS, need)
 }
 
-// "12 digits of time and 00 or 01".
-pub(crate) fn write_verdict(out: &mut [u8], place: usize, time: u64, holds: bool) -> usize
+// "12 digits of time", and the number of an accepted frame's answer.
+pub(crate) fn write_accepted(out: &mut [u8], place: usize, time: u64, number: u64) -> usize
     requires { ⌜ place + longestReply ≤ length (now out) ⌝ }
-    ensures { λ r. ⌜ Wrote (now (out .entry)) place (verdictLine time holds) r (now (out .exit)) ⌝ }
+    ensures { λ r. ⌜ Wrote (now (out .entry)) place (acceptedLine time number) r (now (out .exit)) ⌝ }
 {
-    if holds {
-        return write_reply(out, place, TIME_DIGITS, time, BYTE_DIGITS, 1);
-    }
-    write_reply(out, place, TIME_DIGITS, time, BYTE_DIGITS, 0)
+    write_reply(out, place, TIME_DIGITS, time, BYTE_DIGITS, number)
 }
 
 // A refusal with the row that it gives, or 00.

@@ -14,10 +14,11 @@ ghost use Rattle.lines.specs.Frame.{readFrame};
 ghost use Rattle.lines.specs.Rule.{readRule};
 ghost use Rattle.text.specs.Turn.{Room, staged, beforeFrames, emptyTurn, ruleTurn, frameTurn, lineTurn, Turned};
 ghost use Rattle.text.specs.declared.state.Part.the-variants as Part;
+use crate::replies::MOVED_NUMBER;
+use crate::replies::write_accepted;
 use crate::replies::write_need;
 use crate::replies::write_refusal;
 use crate::replies::write_refused;
-use crate::replies::write_verdict;
 use crate::state::Part;
 use crate::state::Stage;
 use lines::frame::FrameFound;
@@ -219,7 +220,7 @@ fn frame_line(
     }
 }
 
-// The monitor judges the frame: a verdict with the frame's time, or a refusal.
+// The monitor judges the frame: a verdict or a heartbeat's number with the frame's time, or a refusal.
 fn judge(
     stage: Stage,
     table: &[u32],
@@ -248,7 +249,11 @@ fn judge(
     match answer {
         Answer::Verdict(holds) => Told {
             stage,
-            place: write_verdict(out, place, left.time, holds),
+            place: write_accepted(out, place, left.clock, holds as u64),
+        },
+        Answer::ClockMoved => Told {
+            stage,
+            place: write_accepted(out, place, left.clock, MOVED_NUMBER),
         },
         Answer::Refused(fault) => Told {
             stage,

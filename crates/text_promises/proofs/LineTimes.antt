@@ -1,4 +1,4 @@
--- What is written for the frames is what the calls answer and the record's time after each, which is the true time: line by line. A refused frame's
+-- What is written for the frames is what the calls answer and the record's clock after each, which is the true time: line by line. A refused frame's
 -- reply line does not show its time, so the times of the accepted ones are enough.
 use mathlib.Core.List.{List, [], _∷_, _++_, map}
 use mathlib.Core.Path.{_≡_, refl, sym, ap, _∙_}
@@ -25,7 +25,7 @@ use Rattle.text_promises.proofs.Meaning.{frames-follow}
 abbrev running : List ℕ → State → Running
 running table s = record { table = table; found = s .found; store = s .store }
 
--- The answers to good lines from a state, and the record's time after each, as they are written.
+-- The answers to good lines from a state, and the record's clock after each, as they are written.
 abbrev shown : List ℕ → State → List LineReply → List ℕ
 shown table s lines = written lines (replies table s (framesOf (goodLines lines))) (recordTimes table s (framesOf (goodLines lines)))
 
@@ -56,6 +56,9 @@ accepted-shown (goodLine given ∷ lines) [] times others size size′ same = re
 accepted-shown (goodLine given ∷ lines) (reply ∷ answered) [] others size size′ same = absurd (omega arith)
 accepted-shown (goodLine given ∷ lines) (reply ∷ answered) (time ∷ times) [] size size′ same = absurd (omega arith)
 accepted-shown (goodLine given ∷ lines) (step.verdict holds ∷ answered) (time ∷ times) (other ∷ others) size size′ same =
+    let here : time ≡ other = cc in
+    rw (here, accepted-shown lines answered times others (omega arith) (omega arith) (cc))
+accepted-shown (goodLine given ∷ lines) (step.clockMoved ∷ answered) (time ∷ times) (other ∷ others) size size′ same =
     let here : time ≡ other = cc in
     rw (here, accepted-shown lines answered times others (omega arith) (omega arith) (cc))
 accepted-shown (goodLine given ∷ lines) (step.refusal fault ∷ answered) (time ∷ times) (other ∷ others) size size′ same =

@@ -15,7 +15,7 @@ use Rattle.monitor.specs.Record.{clockOf}
 use Rattle.monitor.specs.Step.{Call, timeOf, frameOf}
 use Rattle.promises.specs.Stream.{Starts, after, state, clock, outcome}
 use Rattle.promises.proofs.StreamLaws.{one-more}
-use Rattle.promises.proofs.CallKept.{call-kept}
+use Rattle.promises.proofs.CallKept.{call-kept, clock-kept}
 use Rattle.promises.proofs.StreamKept.{stream-kept}
 use Rattle.promises.proofs.Verdicts.{truths-are-meaning, verdict-is-meaning}
 use Rattle.lines.specs.Lines.{linesOf}
@@ -38,14 +38,16 @@ leaves-more table calls (badLine fault) = refl
 frame-meant : (table : List ℕ) (calls : List Call) (c : Call) → Starts table emptyStore
     → FrameMeant table calls c (replyOf (clockOf (outcome table emptyStore calls c .left)) (outcome table emptyStore calls c .reply))
 frame-meant table calls c starts =
-    let answered = truths-are-meaning table emptyStore starts calls c .answered in
+    let answered = truths-are-meaning table emptyStore starts calls .answered c in
+    let before = stream-kept table emptyStore starts calls in
     record {
-      kept = λ keeps.
-          let told = answered .judged keeps in
-          let time : clockOf (outcome table emptyStore calls c .left) ≡ timeOf (clock calls) c =
-          call-kept (stream-kept table emptyStore starts calls) c keeps .time
-          in
+      judged = λ keeps no-beat.
+          let told = answered .judged keeps no-beat in
+          let time : clockOf (outcome table emptyStore calls c .left) ≡ timeOf (clock calls) c = call-kept before c keeps no-beat .time in
           (told .0, rw (told .1, time), verdict-is-meaning table emptyStore starts calls c (told .0) (told .1) .holding);
+      moved = λ keeps beat.
+          let time : clockOf (outcome table emptyStore calls c .left) ≡ timeOf (clock calls) c = clock-kept before c keeps beat .time in
+          rw (answered .moved keeps beat, time);
       late = λ over. ap (replyOf (clockOf (outcome table emptyStore calls c .left))) (answered .late over);
     }
 

@@ -48,6 +48,7 @@ running table s = record { table = table; found = s .found; store = s .store }
 
 reply-shown : (time : ℕ) (reply : Reply) → replyOf time reply ≡ shown (replied reply) time
 reply-shown time (step.verdict holds) = refl
+reply-shown time step.clockMoved = refl
 reply-shown time (step.refusal fault) = refl
 
 module _ (table : List ℕ) (s : State) (line : List ℕ) where

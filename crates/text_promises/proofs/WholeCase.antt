@@ -20,10 +20,10 @@ use Rattle.monitor.specs.Record.{stretchAt, nothingSeen}
 use Rattle.monitor.specs.Soundness.{every, soundRow?, zeroPast?, sound?}
 use Rattle.monitor.specs.Ready.{readyOf}
 use Rattle.monitor.specs.Start.{startOf}
-use Rattle.monitor.specs.Event.{spansAfter, truthOf, truthsAfter, countsAfter, wordsDone, storeAfter, recordAfter}
+use Rattle.monitor.specs.Event.{spansAfter, truthOf, truthsAfter, countsWith, wordsDone, storeWith, recordAfter}
 use Rattle.monitor.specs.Step.{refusalOf, stepOf}
 use Rattle.text_promises.specs.WholeCase.{WholeCase}
 
 pub whole-case : WholeCase
-unfolding emptyStore transcript rulesFrom tableThen framesFrom linesGoingOn replyLine isDigit digitValue digitsAt hexAt digitByte digits rightAt sumAt lineAt checkOf lengthPasses rowPasses limitsPass faultOf firstFault kindAt numbersAt offset endOf figure frameTime clip join update endAt spansFrom wordsOf packed covered soundSpan? soundFrom? soundEndless? soundSpans? zeros? soundStretch? stretchAt nothingSeen every soundRow? zeroPast? sound? readyOf startOf spansAfter truthOf truthsAfter countsAfter wordsDone storeAfter recordAfter refusalOf stepOf
+unfolding emptyStore transcript rulesFrom tableThen framesFrom linesGoingOn replyLine isDigit digitValue digitsAt hexAt digitByte digits rightAt sumAt lineAt checkOf lengthPasses rowPasses limitsPass faultOf firstFault kindAt numbersAt offset endOf figure frameTime clip join update endAt spansFrom wordsOf packed covered soundSpan? soundFrom? soundEndless? soundSpans? zeros? soundStretch? stretchAt nothingSeen every soundRow? zeroPast? sound? readyOf startOf spansAfter truthOf truthsAfter countsWith wordsDone storeWith recordAfter refusalOf stepOf
 whole-case = refl

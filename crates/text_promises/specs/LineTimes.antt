@@ -9,8 +9,7 @@ use Rattle.lines.specs.Read.{LineReply, atEnd, goodLine, badLine}
 use Rattle.lines.specs.Frame.{readFrame}
 use Rattle.times.specs.Times.{timeLimit}
 use Rattle.monitor.specs.Step.{Reply}
-use Rattle.promises.specs.Stream.{Starts}
-use Rattle.promises.specs.AsIfNotMade.{judged}
+use Rattle.promises.specs.Stream.{Starts, accepted?}
 use Rattle.promises.specs.TextRead.{goodLines, countersOf}
 use Rattle.promises.specs.LineTimes.{lineReplies, Every, acceptedTimes}
 use Rattle.lines.specs.Lines.{linesOf}
@@ -39,13 +38,13 @@ textReplies table lines = lineReplies table emptyStore (goodLines (readLines lin
 abbrev pub Shows : (text table : List ℕ) → List (List ℕ) → List ℕ → Type 0
 Shows text table lines times = transcript text ≡ needLine (needOf table) ++ written (readLines lines) (textReplies table lines) times
 
--- Where all true times are as the demand says, and within the limit, each good line's reply is a verdict with its true time.
--- Where those of the accepted lines are as the demand says, and the others any at all, each verdict has its line's true time; the others are
+-- Where all true times are as the demand says, and within the limit, each good line's reply is a verdict, or 02 for a heartbeat, with its true time.
+-- Where those of the accepted lines are as the demand says, and the others any at all, each of these has its line's true time; the others are
 -- refusals.
 pub record TextTimed (text table : List ℕ) (lines : List (List ℕ)) (times : List ℕ) : Type 0 where
   pub all : TrueTimes times
       → Every (λ (time : ℕ). time ≤ timeLimit) times
-      → Every (λ (reply : Reply). T (judged reply)) (textReplies table lines) × Shows text table lines times
+      → Every (λ (reply : Reply). T (accepted? reply)) (textReplies table lines) × Shows text table lines times
   pub accepted-ones : TrueTimes (acceptedTimes (textReplies table lines) times) → Shows text table lines times
 
 -- A text whose rules make a table that passes, with room in the program's store; the good lines after the empty line have the counters of true times,

@@ -1,5 +1,5 @@
--- What the frames' replies mean: each 00 or 01 that is written is what the formula judged says over the kept events. The calls are the frames of the
--- good lines so far, the oldest first; which of them are kept goes by their times alone.
+-- What the frames' replies mean: each 00 or 01 that is written is what the formula judged says over the kept true events, and 02 is written for a kept
+-- heartbeat. The calls are the frames of the good lines so far, the oldest first; which of them are kept goes by their times alone.
 use mathlib.Core.Bool.{Bool}
 use mathlib.Core.List.{List, [], _∷_, _++_}
 use mathlib.Core.Logic.{_↔_}
@@ -19,16 +19,19 @@ use Rattle.lines.specs.Frame.{readFrame}
 use Rattle.lines.specs.Rule.{readRule}
 use Rattle.times.specs.Times.{timeLimit}
 use Rattle.monitor.specs.Step.{Call, timeOf, frameOf}
-use Rattle.promises.specs.Stream.{Starts, Keeps, clock, longer}
+use Rattle.promises.specs.Stream.{Starts, Keeps, Beats, clock, longer}
 use Rattle.promises.specs.Verdicts.{judgedFormula}
-use Rattle.text.specs.Replies.{needLine, verdictLine, refusedLine}
+use Rattle.text.specs.Replies.{needLine, verdictLine, movedLine, refusedLine}
 use Rattle.lines.specs.Lines.{linesOf}
 use Rattle.text.specs.Transcript.{emptyStore, transcript}
 
--- A good line's reply: the frame's time and the verdict where the frame is kept; 6 where its time is over the limit.
+-- A good line's reply where the frame is kept: its time and the verdict of a true event, its time and 02 for a heartbeat; 6 where its time is over the
+-- limit.
 pub record FrameMeant (table : List ℕ) (calls : List Call) (c : Call) (reply : List ℕ) : Type 0 where
-  pub kept : Keeps (clock calls) c
+  pub judged : Keeps (clock calls) c
+      → ¬ Beats c
       → (holds : Bool) × (reply ≡ verdictLine (timeOf (clock calls) c) holds) × (T holds ↔ Holds (judgedFormula table) (longer calls c))
+  pub moved : Keeps (clock calls) c → Beats c → reply ≡ movedLine (timeOf (clock calls) c)
   pub late : timeLimit < timeOf (clock calls) c → reply ≡ refusedLine (refused Late)
 
 -- The reply to a line, by what is read of it. A line that is refused is no call.

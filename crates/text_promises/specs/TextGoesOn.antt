@@ -7,12 +7,12 @@ use lib.ListN.{length}
 use Rattle.rules.specs.Stretches.{needOf}
 use Rattle.lines.specs.Lines.{linesOf}
 use Rattle.monitor.specs.Record.{clockOf}
-use Rattle.monitor.specs.Step.{setupOf, verdict, refusal}
+use Rattle.monitor.specs.Step.{setupOf, verdict, clockMoved, refusal}
 use Rattle.promises.specs.Stream.{State, Starts, started}
 use Rattle.promises.specs.LeftOut.{Machine, answers, others, otherAnswers, Unchanged}
 use Rattle.promises.specs.TextAsIfNotMade as made
 use Rattle.promises.specs.TextAsIfNotMade.{Reading, Answer, endAnswered, replied}
-use Rattle.text.specs.Replies.{needLine, verdictLine, refusedLine}
+use Rattle.text.specs.Replies.{needLine, verdictLine, movedLine, refusedLine}
 use Rattle.text.specs.Transcript.{emptyStore, transcript}
 use Rattle.text_promises.specs.Meaning.{RulesThen}
 
@@ -20,7 +20,7 @@ use Rattle.text_promises.specs.Meaning.{RulesThen}
 abbrev pub readAlone : List ℕ → State → List ℕ → Reading
 readAlone table s line = record { text = line; place = 0; setup = setupOf table; size = length (s .store) }
 
--- What a line is answered, and the record's time after it.
+-- What a line is answered, and the record's clock after it.
 pub record Told : Type 0 where
   pub answer : Answer
   pub time : ℕ
@@ -37,6 +37,7 @@ frameLines table =
 abbrev pub shown : Answer → ℕ → List ℕ
 shown endAnswered time = []
 shown (replied (verdict holds)) time = verdictLine time holds
+shown (replied clockMoved) time = movedLine time
 shown (replied (refusal fault)) time = refusedLine fault
 
 -- The output where lines are told so: the need, and the reply lines, one after the other.

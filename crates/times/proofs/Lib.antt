@@ -1,2 +1,3 @@
--- Laws of times and gaps; the proofs of the functions stand in the folders beside them.
+-- Laws of times, gaps and masks; the proofs of the functions stand in the folders beside them.
 pub mod GapLaws
+pub mod MaskLaws

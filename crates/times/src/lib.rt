@@ -1,4 +1,6 @@
-// Whole milliseconds in code: the limit of times, sums that may not be made, and an interval [a,b] against two times.
+// Whole milliseconds in code: the limit of times, sums that may not be made, an interval [a,b] against two times, and the bit of a mask that only moves
+// the clock.
 
 pub mod interval;
+pub mod mask;
 pub mod time;

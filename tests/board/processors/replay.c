@@ -82,7 +82,8 @@ static void read_kept(void) {
         store[i] = number();
     store[store_len] = GUARD;
     record.seen = (uint8_t)number();
-    record.time = number();
+    record.clock = number();
+    record.last = number();
     record.rows = (uint32_t)number();
     for (i = 0; i < MUK_ROWS; i++)
         record.truths[i] = (uint8_t)number();
@@ -98,7 +99,8 @@ static void same_kept(void) {
     if (store[store_len] != GUARD)
         stop("the word behind the store has changed");
     same("seen", record.seen);
-    same("time", record.time);
+    same("clock", record.clock);
+    same("last", record.last);
     same("rows", record.rows);
     for (i = 0; i < MUK_ROWS; i++)
         same("a truth", record.truths[i]);
@@ -148,10 +150,10 @@ static void frame(void) {
 }
 
 static void frame_time(void) {
-    uint64_t last = number();
+    uint64_t clock = number();
     uint16_t counter = (uint16_t)number();
     uint64_t time = number();
-    same("the code", muk_frame_time(last, counter, &time));
+    same("the code", muk_frame_time(clock, counter, &time));
     same("the time", time);
 }
 

@@ -1,6 +1,6 @@
 /* The deepest stack of each function of the library, in bytes, its arguments and its return address among them: the stack is painted, a call is made,
- * and where the paint is gone the call has been. The calls are good and refused ones, over a table of 64 rows of every kind whose spans fill their
- * stretches. */
+ * and where the paint is gone the call has been. The calls are good and refused ones, events and heartbeats, over a table of 64 rows of every kind whose
+ * spans fill their stretches. */
 #include <stdio.h>
 
 #include "muktrashi.h"
@@ -143,6 +143,12 @@ int main(void) {
             counter = (uint16_t)when;
             mask = i % 8 != 7;
             if (muk_refusal(call(function)) != 0)
+                return 1;
+            refused(function);
+            when++;
+            counter++;
+            mask = MUK_HEARTBEAT;
+            if (call(function) != MUK_MOVED)
                 return 1;
             refused(function);
         }

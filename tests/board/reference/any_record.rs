@@ -1,6 +1,6 @@
-//! The second reference: soundness and the one-event rules written out, for any table, store and record, reached or not.
+//! The second reference: soundness, the one-event rules and the heartbeat written out, for any table, store and record, reached or not.
 
-use crate::board::{Call, Checked, Kept, Record};
+use crate::board::{Call, Checked, Kept, Record, HEARTBEAT, MOVED};
 use crate::lines::time_of;
 use crate::table::{self, Formula, Interval, Refusal, ROW_LIMIT, TIME_LIMIT};
 
@@ -20,17 +20,17 @@ pub fn stretches(rows: &[Formula]) -> Vec<(usize, Interval, usize)> {
     stretches
 }
 
-/// Soundness of one stretch, `words`, with so many spans at the time t.
-fn sound_stretch(interval: Interval, words: &[u64], count: u32, t: u64) -> bool {
+/// Soundness of one stretch, `words`, with so many spans, at this clock and this time of the last event.
+fn sound_stretch(interval: Interval, words: &[u64], count: u32, clock: u64, event: u64) -> bool {
     if count as u64 > interval.spans() {
         return false;
     }
     let (used, unused) = words.split_at(2 * count as usize);
     let spans: Vec<(u128, u128)> = used.chunks(2).map(|span| (span[0] as u128, span[1] as u128)).collect();
-    let (t, a) = (t as u128, interval.a as u128);
+    let [clock, event, a] = [clock, event, interval.a].map(u128::from);
     let each = spans.iter().all(|&(first, last)| match interval.b.map(u128::from) {
-        Some(b) => first <= last && t <= first && last <= t + b && (first == t || last - first >= b - a),
-        None => t <= first && first <= t + a && last == NO_LAST as u128,
+        Some(b) => first <= last && clock <= first && last <= event + b && (first == clock || last - first >= b - a),
+        None => clock <= first && first <= clock.max(event + a) && last == NO_LAST as u128,
     });
     let apart = spans.windows(2).all(|pair| pair[0].1 + 2 <= pair[1].0);
     each && apart && unused.iter().all(|&word| word == 0)
@@ -39,18 +39,35 @@ fn sound_stretch(interval: Interval, words: &[u64], count: u32, t: u64) -> bool 
 fn sound(rows: &[Formula], store: &[u64], record: &Record) -> bool {
     let stretches = stretches(rows);
     let owns = |row: usize| stretches.iter().any(|&(owner, _, _)| owner == row);
-    let no_event = record.time == 0 && record.truths == [0; ROW_LIMIT] && record.counts == [0; ROW_LIMIT];
+    let no_event = record.last == 0 && record.truths == [0; ROW_LIMIT] && record.counts == [0; ROW_LIMIT];
     record.seen <= 1
         && record.truths.iter().all(|&truth| truth <= 1)
         && record.rows as usize == rows.len()
         && record.truths[rows.len()..].iter().all(|&truth| truth == 0)
         && (0..ROW_LIMIT).all(|row| owns(row) || record.counts[row] == 0)
         && (record.seen == 1 || no_event)
-        && record.time <= TIME_LIMIT
+        && record.last <= record.clock
+        && record.clock <= TIME_LIMIT
         && stretches.iter().all(|&(row, interval, place)| {
             let words = &store[place..place + 2 * interval.spans() as usize];
-            sound_stretch(interval, words, record.counts[row], record.time)
+            sound_stretch(interval, words, record.counts[row], record.clock, record.last)
         })
+}
+
+/// So many spans of a stretch, `words`, clipped at t: ended ones are dropped, and the first one begins no earlier.
+fn clipped(words: &[u64], count: u32, t: u64) -> Vec<(u64, u64)> {
+    let held = words.chunks(2).take(count as usize);
+    held.filter(|span| span[1] >= t).map(|span| (span[0].max(t), span[1])).collect()
+}
+
+/// Puts spans into their stretch, `words`, zeros behind them; gives how many there are.
+fn put(words: &mut [u64], spans: &[(u64, u64)]) -> u32 {
+    words.fill(0);
+    for (place, &(first, last)) in spans.iter().enumerate() {
+        words[2 * place] = first;
+        words[2 * place + 1] = last;
+    }
+    spans.len() as u32
 }
 
 /// The span t+a to t+b joined into spans, all of which are clipped at t.
@@ -70,20 +87,14 @@ fn join(spans: &mut Vec<(u64, u64)>, span: (u64, u64)) {
 /// An event at t in a stretch, `words`, with so many spans: they are clipped at t, dropped unless they are kept, and t+a to t+b is joined in
 /// where the event feeds them. Gives how many there are then, and whether t lies in one.
 fn update(interval: Interval, words: &mut [u64], count: u32, t: u64, kept: bool, fed: bool) -> (u32, bool) {
-    let held = words.chunks(2).take(count as usize);
-    let mut spans: Vec<(u64, u64)> = held.filter(|span| span[1] >= t).map(|span| (span[0].max(t), span[1])).collect();
+    let mut spans = clipped(words, count, t);
     if !kept {
         spans.clear();
     }
     if fed {
         join(&mut spans, (t + interval.a, interval.b.map_or(NO_LAST, |b| t + b)));
     }
-    words.fill(0);
-    for (place, &(first, last)) in spans.iter().enumerate() {
-        words[2 * place] = first;
-        words[2 * place + 1] = last;
-    }
-    (spans.len() as u32, spans.iter().any(|&(first, last)| first <= t && t <= last))
+    (put(words, &spans), spans.iter().any(|&(first, last)| first <= t && t <= last))
 }
 
 /// One event, rows rising, on a sound record.
@@ -105,7 +116,7 @@ fn step(rows: &[Formula], store: &mut [u64], record: &mut Record, t: u64, mask: 
             Formula::Not(x) => !truths[x],
             Formula::And(x, y) => truths[x] & truths[y],
             Formula::Or(x, y) => truths[x] | truths[y],
-            Formula::Previous(x, interval) => before.seen == 1 && before.truths[x] == 1 && interval.has(t - before.time),
+            Formula::Previous(x, interval) => before.seen == 1 && before.truths[x] == 1 && interval.has(t - before.last),
             Formula::Since(x, y, _) => inside(truths[x], truths[y]),
             Formula::Once(x, _) => inside(true, truths[x]),
             Formula::Always(x, _) => !inside(true, !truths[x]),
@@ -113,8 +124,19 @@ fn step(rows: &[Formula], store: &mut [u64], record: &mut Record, t: u64, mask: 
         record.truths[row] = truths[row] as u8;
     }
     record.seen = 1;
-    record.time = t;
+    record.clock = t;
+    record.last = t;
     truths[rows.len() - 1]
+}
+
+/// A heartbeat at t, on a sound record: spans are clipped and the clock moves.
+fn beat(rows: &[Formula], store: &mut [u64], record: &mut Record, t: u64) {
+    for (row, interval, place) in stretches(rows) {
+        let words = &mut store[place..place + 2 * interval.spans() as usize];
+        let spans = clipped(words, record.counts[row], t);
+        record.counts[row] = put(words, &spans);
+    }
+    record.clock = t;
 }
 
 pub fn check(rules: &[u32], checked: &mut Checked) -> u32 {
@@ -149,13 +171,17 @@ pub fn call((rules, call): (&[u32], Call), kept: &mut Kept) -> u32 {
     }
     let (time, mask) = match call {
         Call::Event { time, mask } => (time, mask),
-        Call::Frame { counter, mask } => (time_of(record.time, counter), mask),
+        Call::Frame { counter, mask } => (time_of(record.clock, counter), mask),
     };
     if time > TIME_LIMIT {
         return Refusal::of(6).code();
     }
-    if time < record.time {
+    if time < record.clock {
         return Refusal::of(5).code();
+    }
+    if mask & HEARTBEAT != 0 {
+        beat(&rows, store, record, time);
+        return MOVED;
     }
     step(&rows, store, record, time, mask) as u32
 }

@@ -8,14 +8,15 @@ use std::sync::atomic::{AtomicU64, Ordering};
 #[derive(Clone, Copy, PartialEq, Debug)]
 pub struct Record {
     pub seen: u8,
-    pub time: u64,
+    pub clock: u64,
+    pub last: u64,
     pub rows: u32,
     pub truths: [u8; ROW_LIMIT],
     pub counts: [u32; ROW_LIMIT],
 }
 
 impl Record {
-    pub const ZERO: Record = Record { seen: 0, time: 0, rows: 0, truths: [0; ROW_LIMIT], counts: [0; ROW_LIMIT] };
+    pub const ZERO: Record = Record { seen: 0, clock: 0, last: 0, rows: 0, truths: [0; ROW_LIMIT], counts: [0; ROW_LIMIT] };
 }
 
 /// Words behind the lent store that must stay as they are.
@@ -59,7 +60,13 @@ pub struct Line {
     pub mask: u32,
 }
 
-/// What is handed to the monitor: an event by its time, or a frame by its counter.
+/// A mask with this bit makes its call a heartbeat.
+pub const HEARTBEAT: u32 = 1 << 31;
+
+/// The code of "clock moved".
+pub const MOVED: u32 = 1 << 31;
+
+/// What is handed to the monitor: an event by its time, or a frame by its counter; a heartbeat by its mask.
 #[derive(Clone, Copy, PartialEq, Debug)]
 pub enum Call {
     Event { time: u64, mask: u32 },
@@ -71,7 +78,7 @@ extern "C" {
     fn muk_start(table: *const u32, table_len: u64, store: *mut u64, store_len: u64, record: *mut Record) -> u32;
     fn muk_event(table: *const u32, table_len: u64, store: *mut u64, store_len: u64, record: *mut Record, time: u64, mask: u32) -> u32;
     fn muk_frame(table: *const u32, table_len: u64, store: *mut u64, store_len: u64, record: *mut Record, counter: u16, mask: u32) -> u32;
-    fn muk_frame_time(last: u64, counter: u16, time: *mut u64) -> u32;
+    fn muk_frame_time(clock: u64, counter: u16, time: *mut u64) -> u32;
     fn muk_read_frame(text: *const u8, text_len: u64, place: *mut u64, counter: *mut u16, mask: *mut u32) -> u32;
 }
 
@@ -121,9 +128,9 @@ pub fn call((table, call): (&[u32], Call), kept: &mut Kept) -> u32 {
     }
 }
 
-pub fn frame_time((last, counter): (u64, u16), time: &mut u64) -> u32 {
+pub fn frame_time((clock, counter): (u64, u16), time: &mut u64) -> u32 {
     count();
-    unsafe { muk_frame_time(last, counter, time) }
+    unsafe { muk_frame_time(clock, counter, time) }
 }
 
 pub fn read_frame(text: &[u8], line: &mut Line) -> u32 {

@@ -84,7 +84,8 @@ impl Written for Kept {
     fn to(&self, entry: &mut Entry) {
         self.store().to(entry);
         entry.number(self.record.seen);
-        entry.number(self.record.time);
+        entry.number(self.record.clock);
+        entry.number(self.record.last);
         entry.number(self.record.rows);
         entry.numbers(&self.record.truths);
         entry.numbers(&self.record.counts);

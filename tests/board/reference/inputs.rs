@@ -1,7 +1,7 @@
-//! Inputs, from a fixed seed: tables, times, masks, sound records that no stream reaches, texts, and damage to each.
+//! Inputs, from a fixed seed: tables, times, masks, heartbeats, sound records that no stream reaches, texts, and damage to each.
 
 use crate::any_record::{stretches, NO_LAST};
-use crate::board::{Call, Checked, Line, Record};
+use crate::board::{Call, Checked, Line, Record, HEARTBEAT};
 use crate::table::{self, Formula, Interval, BITS, KINDS, LONGEST, NO_END, ROW_LIMIT, TIME_LIMIT};
 
 /// A generator of numbers (splitmix64).
@@ -66,7 +66,8 @@ pub fn table(random: &mut Random) -> Vec<u32> {
     let rows = if random.once_in(40) { random.between(1, ROW_LIMIT as u64) } else { random.between(1, 10) };
     let mut table = Vec::new();
     for row in 0..rows {
-        let bit = if random.once_in(8) { random.below(BITS as u64) } else { random.below(BUSY_BITS) } as u32;
+        let (any, busy) = (random.below(BITS as u64) as u32, random.below(BUSY_BITS) as u32);
+        let bit = random.pick(&[busy, busy, busy, busy, busy, busy, any, BITS - 1]);
         let kind = if row == 0 { random.below(2) } else { random.pick(&[0, 1, 1, 2, 3, 4, 5, 5, 6, 6, 6, 7, 7, 7, 8, 8, 8]) };
         let [x, y] = [(); 2].map(|_| if row == 0 { 0 } else { random.below(row) as u32 });
         let (a, b) = limits(random);
@@ -85,7 +86,7 @@ pub fn table(random: &mut Random) -> Vec<u32> {
 /// One number of a table changed, or its length.
 pub fn damage_table(random: &mut Random, table: &mut Vec<u32>) {
     let place = random.below(table.len() as u64) as usize;
-    match random.below(8) {
+    match random.below(9) {
         0 => table.truncate(place),
         1 => {
             let zeros = random.between(1, 5 * (ROW_LIMIT as u64 + 2)) as usize;
@@ -95,9 +96,13 @@ pub fn damage_table(random: &mut Random, table: &mut Vec<u32>) {
             let multiple = 5 * random.between(ROW_LIMIT as u64 - 1, ROW_LIMIT as u64 + 2) as usize;
             table.resize(multiple, 0);
         }
-        3 => table[place] = random.pick(&[KINDS - 1, KINDS, BITS - 1, BITS, LONGEST, LONGEST + 1, NO_END - 1, NO_END]),
-        4 => table[place] = random.word() as u32,
-        5 => table[place] = (place / 5) as u32,
+        3 => table[place] = random.pick(&[KINDS - 1, KINDS, LONGEST, LONGEST + 1, NO_END - 1, NO_END]),
+        4 => {
+            let x = (place / 5 * 5 + 1).min(table.len() - 1);
+            table[x] = random.pick(&[BITS - 1, BITS, BITS + 1]);
+        }
+        5 => table[place] = random.word() as u32,
+        6 => table[place] = (place / 5) as u32,
         _ => table[place] = table[place].wrapping_add(random.pick(&[1, u32::MAX])),
     }
 }
@@ -109,8 +114,8 @@ pub fn words(random: &mut Random, count: u64) -> Vec<u64> {
 
 /// A record of any content, as it may stand before a start.
 pub fn any_record(random: &mut Random) -> Record {
-    let (time, byte, count) = (random.word(), random.word() as u8, random.word() as u32);
-    Record { seen: byte, time, rows: count, truths: [byte; ROW_LIMIT], counts: [count; ROW_LIMIT] }
+    let (clock, last, byte, count) = (random.word(), random.word(), random.word() as u8, random.word() as u32);
+    Record { seen: byte, clock, last, rows: count, truths: [byte; ROW_LIMIT], counts: [count; ROW_LIMIT] }
 }
 
 /// Numbers of any content, as they may stand where a table check writes.
@@ -123,22 +128,32 @@ pub fn any_line(random: &mut Random, place: u64) -> Line {
     Line { place, counter: random.word() as u16, mask: random.word() as u32 }
 }
 
-/// A call after the time `last`: equal times, times near the limits of the rows, times below and over the limit.
-pub fn call(random: &mut Random, last: u64) -> Call {
-    let mask = if random.once_in(20) { random.word() as u32 } else { random.below(1 << BUSY_BITS) as u32 };
+/// A mask, one in four of a heartbeat.
+fn mask(random: &mut Random) -> u32 {
+    let pads = if random.once_in(20) { random.word() as u32 & !HEARTBEAT } else { random.below(1 << BUSY_BITS) as u32 };
+    if random.once_in(4) {
+        pads | HEARTBEAT
+    } else {
+        pads
+    }
+}
+
+/// A call after the time `clock`: equal times, times near the limits of the rows, times below and over the limit.
+pub fn call(random: &mut Random, clock: u64) -> Call {
+    let mask = mask(random);
     if random.once_in(3) {
         let (short, long) = (random.below(20), random.below(65_536));
         let gap = random.pick(&[0, 1, 1, 2, 3, short, long]);
-        return Call::Frame { counter: (last.wrapping_add(gap)) as u16, mask };
+        return Call::Frame { counter: (clock.wrapping_add(gap)) as u16, mask };
     }
     let any = random.word();
     let time = match random.below(16) {
-        0..=3 => last,
-        4..=10 => last.wrapping_add(random.between(1, 4)),
-        11 | 12 => last.wrapping_add(random.below(24)),
-        13 => last.wrapping_add(random.pick(&[100, 200, 600, 1000, LONGEST as u64, LONGEST as u64 + 1, 65_536, 65_546])),
-        14 => last.saturating_sub(random.between(1, 3)),
-        _ => random.pick(&[last, last, TIME_LIMIT, TIME_LIMIT + 1, u64::MAX, any]),
+        0..=3 => clock,
+        4..=10 => clock.wrapping_add(random.between(1, 4)),
+        11 | 12 => clock.wrapping_add(random.below(24)),
+        13 => clock.wrapping_add(random.pick(&[100, 200, 600, 1000, LONGEST as u64, LONGEST as u64 + 1, 65_536, 65_546])),
+        14 => clock.saturating_sub(random.between(1, 3)),
+        _ => random.pick(&[clock, clock, TIME_LIMIT, TIME_LIMIT + 1, u64::MAX, any]),
     };
     Call::Event { time, mask }
 }
@@ -153,31 +168,33 @@ pub fn base(random: &mut Random) -> u64 {
     }
 }
 
-/// Spans that are sound at t, of at most the row's figure.
-fn sound_spans(random: &mut Random, interval: Interval, t: u64) -> Vec<(u64, u64)> {
+/// Spans that are sound at this clock and this time of the last event, of at most the row's figure; often at the ends of what is sound.
+fn sound_spans(random: &mut Random, interval: Interval, clock: u64, event: u64) -> Vec<(u64, u64)> {
     let mut spans = Vec::new();
+    let latest_first = event + interval.a;
     let b = match interval.b {
         Some(b) => b,
         None => {
             if random.once_in(2) {
-                spans.push((random.between(t, t + interval.a), NO_LAST));
+                let latest = clock.max(latest_first);
+                let any = random.between(clock, latest);
+                spans.push((random.pick(&[clock, latest, any]), NO_LAST));
             }
             return spans;
         }
     };
-    let latest_first = t + interval.a;
-    let mut lowest = t;
-    if random.once_in(2) {
-        let last = if random.once_in(2) { t + random.below(3).min(b) } else { random.between(t, t + b) };
-        spans.push((t, last));
+    let latest = event + b;
+    let mut lowest = clock + 1;
+    if clock <= latest && random.once_in(2) {
+        let (short, any) = (random.below(3).min(latest - clock), random.between(clock, latest));
+        let last = random.pick(&[clock + short, clock + short, any, latest]);
+        spans.push((clock, last));
         lowest = last + 2;
-    } else {
-        lowest += 1;
     }
     while lowest <= latest_first && (spans.len() as u64) < interval.spans() && !random.once_in(5) {
         let first = lowest + if random.once_in(2) { 0 } else { random.below((latest_first - lowest + 1).min(4)) };
         let shortest = first + (b - interval.a);
-        let last = if random.once_in(3) { random.between(shortest, t + b) } else { shortest };
+        let last = if random.once_in(3) { random.between(shortest, latest) } else { shortest };
         spans.push((first, last));
         lowest = last + 2;
     }
@@ -189,16 +206,18 @@ pub fn sound_record(random: &mut Random, rows: &[Formula], spare: u64) -> (Recor
     let mut record = Record { rows: rows.len() as u32, ..Record::ZERO };
     let mut store = vec![0; table::need(rows) as usize];
     store.extend(words(random, spare));
+    record.clock = base(random);
     if random.once_in(10) {
         return (record, store);
     }
     record.seen = 1;
-    record.time = base(random);
+    let (short, any) = (random.below(12), random.below(record.clock + 1));
+    record.last = record.clock.saturating_sub(random.pick(&[0, 0, 1, short, short, any]));
     for truth in &mut record.truths[..rows.len()] {
         *truth = random.below(2) as u8;
     }
     for (row, interval, place) in stretches(rows) {
-        let spans = sound_spans(random, interval, record.time);
+        let spans = sound_spans(random, interval, record.clock, record.last);
         record.counts[row] = spans.len() as u32;
         for (index, (first, last)) in spans.into_iter().enumerate() {
             store[place + 2 * index] = first;
@@ -213,15 +232,19 @@ pub fn damage_record(random: &mut Random, record: &mut Record, store: &mut [u64]
     let rows = (record.rows as usize).clamp(1, ROW_LIMIT);
     let row = if random.once_in(8) { random.below(ROW_LIMIT as u64) } else { random.below(rows as u64) } as usize;
     let near = random.pick(&[1, 1, 2, u64::MAX, u64::MAX, u64::MAX - 1]);
-    match random.below(if store.is_empty() { 7 } else { 16 }) {
+    let (clock, last) = (record.clock, record.last);
+    match random.below(if store.is_empty() { 11 } else { 20 }) {
         0 => record.seen = random.pick(&[0, 1, 2, 255]),
-        1 => record.time = random.pick(&[0, TIME_LIMIT, TIME_LIMIT + 1, u64::MAX, record.time.wrapping_add(near)]),
-        2 => record.rows = random.pick(&[0, 64, 65, u32::MAX, record.rows.wrapping_add(near as u32)]),
-        3 | 4 => record.truths[row] = random.pick(&[0, 1, 2, 128, 255]),
-        5 | 6 => record.counts[row] = random.pick(&[0, 1, u32::MAX, record.counts[row].wrapping_add(near as u32)]),
-        7 => {
+        // The spans of an event that was not seen.
+        1 => *record = Record { seen: 0, last: 0, truths: [0; ROW_LIMIT], ..*record },
+        2 | 3 => record.clock = random.pick(&[0, last, TIME_LIMIT, TIME_LIMIT + 1, u64::MAX, clock.wrapping_add(near)]),
+        4 | 5 => record.last = random.pick(&[0, clock, clock.wrapping_add(1), TIME_LIMIT + 1, u64::MAX, last.wrapping_add(near)]),
+        6 => record.rows = random.pick(&[0, 64, 65, u32::MAX, record.rows.wrapping_add(near as u32)]),
+        7 | 8 => record.truths[row] = random.pick(&[0, 1, 2, 128, 255]),
+        9 | 10 => record.counts[row] = random.pick(&[0, 1, u32::MAX, record.counts[row].wrapping_add(near as u32)]),
+        11 => {
             let (place, any) = (random.below(store.len() as u64) as usize, random.word());
-            store[place] = random.pick(&[0, 1, NO_LAST, record.time, any]);
+            store[place] = random.pick(&[0, 1, NO_LAST, clock, any]);
         }
         _ => {
             let used: Vec<usize> = (0..store.len()).filter(|&place| store[place] != 0).collect();

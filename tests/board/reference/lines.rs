@@ -10,16 +10,16 @@ const TURN: u64 = 65_536;
 pub const END: u32 = 0;
 const READ: u32 = 1;
 
-/// "time = last + ((counter - last) modulo 65,536)".
-pub fn time_of(last: u64, counter: u16) -> u64 {
-    last + (TURN + counter as u64 - last % TURN) % TURN
+/// "time = last + ((counter - last) modulo 65,536)", where last is the clock (document 02, E2).
+pub fn time_of(clock: u64, counter: u16) -> u64 {
+    clock + (TURN + counter as u64 - clock % TURN) % TURN
 }
 
-pub fn frame_time((last, counter): (u64, u16), time: &mut u64) -> u32 {
-    if last > TIME_LIMIT {
+pub fn frame_time((clock, counter): (u64, u16), time: &mut u64) -> u32 {
+    if clock > TIME_LIMIT {
         return Refusal::of(6).code();
     }
-    *time = time_of(last, counter);
+    *time = time_of(clock, counter);
     0
 }
 

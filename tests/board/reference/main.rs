@@ -72,16 +72,16 @@ fn streams(random: &mut Random, calls: &mut Calls) {
         let mut kept = Kept::new(inputs::words(random, size), inputs::any_record(random));
         compare_start(calls, &table, &mut kept);
         let mut history = History::start(rows);
-        let mut last = inputs::base(random);
+        let mut clock = inputs::base(random);
         for _ in 0..STREAM_CALLS {
-            let call = inputs::call(random, last);
+            let call = inputs::call(random, clock);
             let before = kept.clone();
             let code = compare_call(calls, &table, &mut kept, call);
             let meant_code = history.call(call);
             let (record, words) = history.record_and_words();
             let left = (code, kept.record, &kept.store()[..need]);
             same(&"by the meaning, a call", &(&table, &before, call), &left, &(meant_code, record, &words[..]));
-            last = if record.seen == 1 { record.time } else { last };
+            clock = if record.clock > 0 { record.clock } else { clock };
         }
     }
 }
@@ -93,7 +93,7 @@ fn unreached(random: &mut Random, calls: &mut Calls) {
         let rows = table::check(&table).expect("a table that passes");
         let spare = random.below(3);
         let (mut record, mut store) = inputs::sound_record(random, &rows, spare);
-        let last = record.time;
+        let clock = record.clock;
         match random.below(8) {
             0..=2 => inputs::damage_record(random, &mut record, &mut store),
             3 => inputs::damage_table(random, &mut table),
@@ -103,7 +103,7 @@ fn unreached(random: &mut Random, calls: &mut Calls) {
         }
         let mut kept = Kept::new(store, record);
         for _ in 0..UNREACHED_CALLS {
-            let call = inputs::call(random, last.max(kept.record.time));
+            let call = inputs::call(random, clock.max(kept.record.clock));
             compare_call(calls, &table, &mut kept, call);
         }
     }
@@ -141,13 +141,13 @@ fn texts(random: &mut Random, calls: &mut Calls) {
     }
 }
 
-/// Times of frames, after any last time.
+/// Times of frames, after any clock.
 fn times(random: &mut Random, calls: &mut Calls) {
     for _ in 0..TIMES {
         let (base, any) = (inputs::base(random), random.word());
-        let last = random.pick(&[base, base, any, TIME_LIMIT - 1, TIME_LIMIT, TIME_LIMIT + 1, u64::MAX]);
-        let counter = random.pick(&[0, 1, u16::MAX, last as u16, (last as u16).wrapping_sub(1), any as u16]);
-        compare(calls, Function::FrameTime, (last, counter), &mut random.word(), board::frame_time, lines::frame_time);
+        let clock = random.pick(&[base, base, any, TIME_LIMIT - 1, TIME_LIMIT, TIME_LIMIT + 1, u64::MAX]);
+        let counter = random.pick(&[0, 1, u16::MAX, clock as u16, (clock as u16).wrapping_sub(1), any as u16]);
+        compare(calls, Function::FrameTime, (clock, counter), &mut random.word(), board::frame_time, lines::frame_time);
     }
 }
 

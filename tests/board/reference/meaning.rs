@@ -1,7 +1,7 @@
-//! The first reference: a monitor straight from the meaning, for records reached from a start. It keeps every accepted event and no spans;
-//! verdicts, records and the words of the store are computed from the whole history each time.
+//! The first reference: a monitor straight from the meaning, for records reached from a start. It keeps every accepted event, the clock and no spans;
+//! verdicts, records and the words of the store are computed from the whole history each time. A heartbeat is no event.
 
-use crate::board::{Call, Record};
+use crate::board::{Call, Record, HEARTBEAT, MOVED};
 use crate::lines::time_of;
 use crate::table::{Formula, Interval, Refusal, TIME_LIMIT};
 
@@ -10,31 +10,32 @@ struct Event {
     truths: Vec<bool>,
 }
 
-/// The accepted events since a start, oldest first.
+/// The accepted events since a start, oldest first, and the time of the last accepted call, heartbeats too.
 pub struct History {
     rows: Vec<Formula>,
     events: Vec<Event>,
+    clock: u64,
 }
 
 impl History {
     pub fn start(rows: Vec<Formula>) -> History {
-        History { rows, events: Vec::new() }
-    }
-
-    fn time(&self) -> u64 {
-        self.events.last().map_or(0, |event| event.time)
+        History { rows, events: Vec::new(), clock: 0 }
     }
 
     pub fn call(&mut self, call: Call) -> u32 {
         let (time, mask) = match call {
             Call::Event { time, mask } => (time, mask),
-            Call::Frame { counter, mask } => (time_of(self.time(), counter), mask),
+            Call::Frame { counter, mask } => (time_of(self.clock, counter), mask),
         };
         if time > TIME_LIMIT {
             return Refusal::of(6).code();
         }
-        if time < self.time() {
+        if time < self.clock {
             return Refusal::of(5).code();
+        }
+        self.clock = time;
+        if mask & HEARTBEAT != 0 {
+            return MOVED;
         }
         self.events.push(Event { time, truths: Vec::new() });
         for row in 0..self.rows.len() {
@@ -94,9 +95,9 @@ impl History {
         starts.iter().any(|start| interval.has(u - start))
     }
 
-    /// The maximal runs of reached values from the newest event's time on, rising. A run begins at that time or a after a start and ends b after one.
+    /// The maximal runs of reached values from the clock on, rising. A run begins at the clock or a after a start and ends b after one.
     fn runs(&self, row: usize, interval: Interval) -> Vec<(u64, u64)> {
-        let now = self.time();
+        let now = self.clock;
         let starts = self.starts(row);
         let reached = |u: u64| u >= now && self.reached(&starts, interval, u);
         let mut firsts: Vec<u64> = starts.iter().map(|start| start + interval.a).chain([now]).collect();
@@ -115,10 +116,11 @@ impl History {
 
     /// The record, and the words of the store up to the need.
     pub fn record_and_words(&self) -> (Record, Vec<u64>) {
-        let mut record = Record { rows: self.rows.len() as u32, time: self.time(), ..Record::ZERO };
+        let mut record = Record { rows: self.rows.len() as u32, clock: self.clock, ..Record::ZERO };
         let mut words = Vec::new();
         if let Some(event) = self.events.last() {
             record.seen = 1;
+            record.last = event.time;
             for (row, &truth) in event.truths.iter().enumerate() {
                 record.truths[row] = truth as u8;
             }

@@ -1,8 +1,10 @@
-//! The rule table of document 01, with the kinds 7 and 8 of document 02, E1: the limits, the formula of each row, the check, spans and need.
+//! The rule table of document 01, with the kinds 7 and 8 of document 02, E1, and without bit 31 (E2): the limits, the formula of each row, the check,
+//! spans and need.
 
 pub const ROW_LIMIT: usize = 64;
 pub const KINDS: u32 = 9;
-pub const BITS: u32 = 32;
+/// The bits that a rule may name.
+pub const BITS: u32 = 31;
 pub const LONGEST: u32 = 86_400_000;
 pub const NO_END: u32 = 4_294_967_295;
 pub const TIME_LIMIT: u64 = 281_474_976_710_655;

@@ -9,6 +9,9 @@ enum-known-answer c = search needs
 returns : tie.Need-returns
 returns c = search needs
 
+enum-told : tie.Need-enum-told
+enum-told c = search needs
+
 enum-known-answer-2 : tie.Need-enum-known-answer-2
 enum-known-answer-2 c = search needs
 
@@ -19,7 +22,10 @@ returns-2 : tie.Need-returns-2
 returns-2 c = search needs
 
 returns-3 : tie.Need-returns-3
-returns-3 c = rw (c .before .before .answer2 .given .1, c .refusal-code .ensures)
+returns-3 c = rw (c .enum-told .given .1)
+
+returns-4 : tie.Need-returns-4
+returns-4 c = rw (c .before .before .answer2 .given .1, c .refusal-code .ensures)
 
 pub code-spec : {M : Type 1} → statement M
 code-spec =
@@ -27,7 +33,9 @@ code-spec =
     (tie.spec
     enum-known-answer
     returns
+    enum-told
     enum-known-answer-2
     refusal-code-requires
     returns-2
-    returns-3)
+    returns-3
+    returns-4)

@@ -3,7 +3,7 @@ use Prim.Native.Nat.{_<_}
 use native.Mathlib.Omega.{arith}
 use borrow.Author.Needs.{needs}
 use Rattle.board.specs.Code.{numberRoom}
-use Rattle.board.proofs.CodeLaws.{number-small}
+use Rattle.board.proofs.CodeLaws.{numbered}
 use Rattle.board.proofs.code.refusal_code.Statement.{statement}
 use Rattle.board.proofs.code.refusal_code.Tie as tie
 
@@ -12,7 +12,7 @@ number-requires c κs = search needs
 
 mul-result : tie.Need-mul-result
 mul-result c =
-    let small : c .number .result < numberRoom = rw (c .number .ensures) (number-small (c .before .args .fault)) in
+    let small : c .number .result < numberRoom = rw (c .number .ensures) (numbered (c .before .args .fault) .1) in
     omega arith
 
 row-requires : tie.Need-row-requires
@@ -20,7 +20,7 @@ row-requires c κs = search needs
 
 add-result : tie.Need-add-result
 add-result c =
-    let small : c .before .number .result < numberRoom = rw (c .before .number .ensures) (number-small (c .before .before .args .fault)) in
+    let small : c .before .number .result < numberRoom = rw (c .before .number .ensures) (numbered (c .before .before .args .fault) .1) in
     omega arith
 
 returns : tie.Need-returns

@@ -10,11 +10,11 @@ use Rattle.rules.specs.Limits.{rowLimit}
 use Rattle.rules.specs.Rows.{rowsOf}
 use Rattle.rules.specs.Stretches.{offset}
 use Rattle.monitor.specs.declared.record.Record.{Record}
-use Rattle.monitor.specs.Event.{truthsAfter, countsAfter, wordsDone, storeAfter}
+use Rattle.monitor.specs.Event.{truthsAfter, countsWith, wordsDone, storeWith}
 use Rattle.monitor.specs.Step.{setupOf, event}
 use Rattle.monitor.specs.Core.{recordMet, momentMet, AfterRows}
 use Rattle.monitor.proofs.AcceptedLaws.{Accepted, accepted}
-use Rattle.monitor.proofs.TurnLaws.{length-after, row-ready, next-place, row-turn}
+use Rattle.monitor.proofs.TurnLaws.{length-judged, row-ready, next-place, row-turn}
 use Rattle.monitor.proofs.event.judge_rows.Statement.{statement}
 use Rattle.monitor.proofs.event.judge_rows.Tie as tie
 
@@ -28,10 +28,10 @@ abbrev μ-loop : tie.MeasureT-loop
 μ-loop table store₀ rows arrival found truths₀ counts₀ from₀ row₀ store truths counts from row = rows - row
 
 loop-holds : tie.Need-loop-holds Inv-loop μ-loop
-unfolding offset truthsAfter countsAfter wordsDone storeAfter
+unfolding offset truthsAfter countsWith wordsDone storeWith
 loop-holds c =
     let start = c .before .before in
-    (omega arith, refl, record { truths-are = start .pre .1 .1; counts-are = refl; store-is = refl })
+    (omega arith, refl, record { truths-are = start .pre .1 .1; left = record { counts-are = refl; store-is = refl } })
 
 -- What was checked before, and the record that it was checked of.
 module _ (c : tie.At-loop Inv-loop μ-loop) where
@@ -103,7 +103,7 @@ loop-again c =
 same-length : tie.Need-same-length Inv-loop μ-loop
 same-length c =
     let within : c .before .loop .row ≤ rowsOf (now (at-start (c .before) .args .table)) = omega (arith, at-start (c .before) .pre .1 .0) in
-    ap length (c .before .loop .inv .2 .store-is) ∙ length-after _ _ _ _ _ (met (c .before)) _ within
+    ap length (c .before .loop .inv .2 .left .store-is) ∙ length-judged _ _ _ _ _ (met (c .before)) _ within
 
 returns : tie.Need-returns Inv-loop μ-loop
 returns c =

@@ -1,17 +1,15 @@
 -- `monitor::soundness::sound_record` meets its contract: the first test that fails decides. Assumes nothing.
 use mathlib.Core.Bool.{true}
 use mathlib.Core.Path.{_≡_, sym, _∙_}
-use Prim.Native.Nat.{_≤_}
 use native.Mathlib.Omega.{arith}
 use denote.Ref.{now}
 use borrow.Author.Needs.{needs}
 use Rattle.rules.specs.Rows.{rowsOf}
-use Rattle.times.specs.Times.{timeLimit}
 use Rattle.monitor.specs.declared.record.Record.{Record}
 use Rattle.monitor.specs.Core.{recordOf}
-use Rattle.monitor.specs.Soundness.{every, soundRow?, soundTime?}
+use Rattle.monitor.specs.Soundness.{every, soundRow?, soundTimes?}
 use Rattle.monitor.proofs.ReadyLaws.{ready-none}
-use Rattle.monitor.proofs.SoundnessLaws.{time-within, rows-counted, unsound-count, unsound-time, unsound-row, sound-by-past}
+use Rattle.monitor.proofs.SoundnessLaws.{times-within, rows-counted, unsound-count, unsound-time, unsound-row, sound-by-past}
 use Rattle.monitor.proofs.soundness.sound_record.Statement.{statement}
 use Rattle.monitor.proofs.soundness.sound_record.Tie as tie
 
@@ -22,25 +20,27 @@ module _ (c : tie.Else1) where
 
   abbrev kept : Record
   kept =
-      recordOf (at-start .args .seen) (at-start .args .clock) (at-start .args .count) (now (at-start .args .truths)) (now (at-start .args .counts))
+      recordOf (at-start .args .seen) (at-start .args .clock) (at-start .args .last) (at-start .args .count) (now (at-start .args .truths)) (now (at-start .args .counts))
 
   counted : at-start .args .count ≡ rowsOf (now (at-start .args .table))
-  counted = c .if1 .left ∙ at-start .pre .1 .0
+  counted = c .if1 .left ∙ at-start .pre .1
 
 returns : tie.Need-returns
-returns c = sym (unsound-count _ _ _ (λ same. c .if1 .taken (same ∙ sym (c .before .before .before .pre .1 .0))))
+returns c = sym (unsound-count _ _ _ (λ same. c .if1 .taken (same ∙ sym (c .before .before .before .pre .1))))
 
-sound-time-requires : tie.Need-sound-time-requires
-sound-time-requires c κs = search needs
+sound-times-requires : tie.Need-sound-times-requires
+sound-times-requires c κs = search needs
 
-timely : (c : tie.Then2) → soundTime? (at-start (c .before .before) .args .seen) (at-start (c .before .before) .args .clock) ≡ true
-timely c = sym (c .before .sound-time .ensures) ∙ c .if2 .taken
+timely : (c : tie.Then2)
+    → let args = at-start (c .before .before) .args in
+    soundTimes? (args .seen) (args .clock) (args .last) ≡ true
+timely c = sym (c .before .sound-times .ensures) ∙ c .if2 .taken
 
 sound-rows-requires : tie.Need-sound-rows-requires
 sound-rows-requires c κs =
     let start = at-start (c .before .before) in
-    let early : start .args .clock ≤ timeLimit = time-within (start .args .seen) (start .args .clock) (timely c) in
-    (start .pre .0, (start .pre .1 .0, start .pre .1 .1, rw (← (start .pre .1 .1)) early))
+    let times = times-within (start .args .seen) (start .args .clock) (start .args .last) (timely c) in
+    (start .pre .0, (start .pre .1, times .0, times .1))
 
 rows-told : (c : tie.After-sound-rows)
     → every (rowsOf (now (at-start (c .before .before .before) .args .table)))
@@ -49,18 +49,18 @@ rows-told : (c : tie.After-sound-rows)
     ≡ c .sound-rows .result
 rows-told c =
     let e = c .before .before .before in
-    rows-counted _ _ _ _ _ _ _ _ (e .if1 .left) (at-start e .pre .1 .0) (c .sound-rows .ensures)
+    rows-counted _ _ _ _ _ _ _ _ _ (e .if1 .left) (at-start e .pre .1) (c .sound-rows .ensures)
 
 zero-past-requires : tie.Need-zero-past-requires
 zero-past-requires c κs =
     let start = at-start (c .before .before .before .before) in
-    omega (arith, start .pre .1 .0, ready-none _ _ (start .pre .0) .passes .few-rows)
+    omega (arith, start .pre .1, ready-none _ _ (start .pre .0) .passes .few-rows)
 
 returns-2 : tie.Need-returns-2
 returns-2 c =
     let r = c .before .before in
     let e = r .before .before .before in
-    rw (c .zero-past .ensures, at-start e .pre .1 .0)
+    rw (c .zero-past .ensures, at-start e .pre .1)
     (sound-by-past _ _ _ (counted e) (timely (r .before)) (rows-told r ∙ c .before .if3 .taken))
 
 returns-3 : tie.Need-returns-3
@@ -69,14 +69,14 @@ returns-3 c =
     sym (unsound-row _ _ _ (counted (r .before .before .before)) (timely (r .before)) (rows-told r ∙ c .if3 .left))
 
 returns-4 : tie.Need-returns-4
-returns-4 c = sym (unsound-time _ _ _ (counted (c .before .before)) (sym (c .before .sound-time .ensures) ∙ c .if2 .left))
+returns-4 c = sym (unsound-time _ _ _ (counted (c .before .before)) (sym (c .before .sound-times .ensures) ∙ c .if2 .left))
 
 pub sound-record-spec : {M : Type 1} → statement M
 sound-record-spec =
     tie.close
     (tie.spec
     returns
-    sound-time-requires
+    sound-times-requires
     sound-rows-requires
     zero-past-requires
     returns-2

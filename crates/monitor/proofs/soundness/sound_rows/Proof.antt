@@ -23,7 +23,7 @@ use Rattle.monitor.proofs.soundness.sound_rows.Tie as tie
 
 abbrev Inv-loop : tie.InvT-loop
 Inv-loop table store rows seen clock last truths counts from₀ row₀ from row =
-    (row ≤ rows) × (from ≡ offset table row) × (every row (soundRow? table store (recordOf seen clock rows truths counts)) ≡ true)
+    (row ≤ rows) × (from ≡ offset table row) × (every row (soundRow? table store (recordOf seen clock last rows truths counts)) ≡ true)
 
 abbrev μ-loop : tie.MeasureT-loop
 μ-loop table store rows seen clock last truths counts from₀ row₀ from row = rows - row
@@ -48,7 +48,7 @@ module _ (c : tie.After-spans Inv-loop μ-loop) where
 
   abbrev kept : Record
   kept =
-      recordOf (at-start .args .seen) (at-start .args .clock) (at-start .args .rows) (now (at-start .args .truths)) (now (at-start .args .counts))
+      recordOf (at-start .args .seen) (at-start .args .clock) (at-start .args .last) (at-start .args .rows) (now (at-start .args .truths)) (now (at-start .args .counts))
 
   few : c .before .before .before .loop .row < rowLimit
   few = omega (arith, ready .passes .few-rows)
@@ -98,6 +98,7 @@ sound-row-requires c κs =
     let all : from + spanWords * s .spans .result - from ≡ spanWords * s .spans .result = omega arith in (
       s .spans .ensures,
       mid-len from (from + spanWords * s .spans .result) (now (at-start s .args .store)) (fits s) ∙ all ∙ wide s,
+      at-start s .pre .1 .1,
       at-start s .pre .1 .2,
     )
 
@@ -109,7 +110,7 @@ told : (c : tie.After-sound-row Inv-loop μ-loop)
 told c =
     let s = c .before .before .before .before in
     row-told (now (at-start s .args .table)) (now (at-start s .args .store)) (kept s) (s .before .before .before .loop .row)
-    (s .before .numbers-at .ensures) (s .before .before .before .loop .inv .1) (wide s) (at-start s .pre .1 .1) (c .sound-row .ensures)
+    (s .before .numbers-at .ensures) (s .before .before .before .loop .inv .1) (wide s) (c .sound-row .ensures)
 
 add-row : tie.Need-add-row Inv-loop μ-loop
 add-row c = omega arith

@@ -6,8 +6,11 @@ use Rattle.monitor.proofs.soundness.sound_stretch.Tie as tie
 wide-requires : tie.Need-wide-requires
 wide-requires c κs = search needs
 
-add-latest-first : tie.Need-add-latest-first
-add-latest-first c = search needs
+add-later : tie.Need-add-later
+add-later c = search needs
+
+later-requires : tie.Need-later-requires
+later-requires c κs = search needs
 
 last-reached-requires : tie.Need-last-reached-requires
 last-reached-requires c κs = search needs
@@ -24,7 +27,8 @@ returns c =
       c .sound .ensures,
       c .before .length-of .ensures,
       c .before .before .last-reached .ensures,
-      c .before .before .before .wide .ensures,
+      c .before .before .before .later .ensures,
+      c .before .before .before .before .wide .ensures,
     )
 
 pub sound-stretch-spec : {M : Type 1} → statement M
@@ -32,7 +36,8 @@ sound-stretch-spec =
     tie.close
     (tie.spec
     wide-requires
-    add-latest-first
+    add-later
+    later-requires
     last-reached-requires
     length-of-requires
     sound-requires

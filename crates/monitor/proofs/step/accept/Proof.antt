@@ -26,7 +26,7 @@ module _ (c : tie.After-slice-known2) where
       (recordMet (args .arrival) (args .rows) (now (args .truths)) (now (args .counts)))
       (event (args .arrival .time) (args .arrival .mask)) (at-start .pre .0) .ready .passes
       in
-      (omega (arith, at-start .pre .1, passes .some-row), omega (arith, at-start .pre .1, passes .few-rows))
+      (omega (arith, at-start .pre .1 .0, passes .some-row), omega (arith, at-start .pre .1 .0, passes .few-rows))
 
 sub-t15 : tie.Need-sub-t15
 sub-t15 c = omega (arith, rows c)
@@ -40,7 +40,7 @@ same-length c = search needs
 returns : tie.Need-returns
 returns c =
     let start = at-start (c .before) in
-    left-accepted _ _ _ _ _ _ _ _ _ (start .pre .0) (start .pre .1) (c .before .before .before .judge-rows .ensures)
+    left-accepted _ _ _ _ _ _ _ _ _ (start .pre .0) (start .pre .1 .0) (start .pre .1 .1) (c .before .before .before .judge-rows .ensures)
 
 pub accept-spec : {M : Type 1} → statement M
 accept-spec =

@@ -39,7 +39,7 @@ cast-judge-sound c = search needs
 judge-sound-requires : tie.Need-judge-sound-requires
 judge-sound-requires c κs =
     let known = c .before .before .before in
-    ((fits known .ready, fits known .counted), (rw (← (counted known)) (fits known .sound), at-start known .pre))
+    ((fits known .ready, fits known .counted), rw (← (counted known)) (fits known .sound))
 
 same-length : tie.Need-same-length
 same-length c = search needs

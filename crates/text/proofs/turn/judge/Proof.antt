@@ -1,9 +1,7 @@
 -- `text::turn::judge` meets its contract: the monitor's answer decides. Assumes nothing.
-use mathlib.Core.Path.{_≡_}
-use Prim.Native.Nat.{_*_, _-_}
-use native.Mathlib.Omega.{arith}
+use native.Mathlib.Nat.{sub-zero}
 use borrow.Author.Needs.{needs}
-use Rattle.rules.specs.Limits.{rowNumbers}
+use Rattle.monitor.proofs.RecordLaws.{byte-told}
 use Rattle.text.proofs.TurnLaws.{frame-told}
 use Rattle.text.proofs.turn.judge.Statement.{statement}
 use Rattle.text.proofs.turn.judge.Tie as tie
@@ -26,8 +24,17 @@ frame-requires c κs = search needs
 enum-known-answer : tie.Need-enum-known-answer
 enum-known-answer c = search needs
 
-write-verdict-requires : tie.Need-write-verdict-requires
-write-verdict-requires c κs = search needs
+cast-write-accepted : tie.Need-cast-write-accepted
+cast-write-accepted c = search needs
+
+write-accepted-requires : tie.Need-write-accepted-requires
+write-accepted-requires c κs = search needs
+
+enum-told : tie.Need-enum-told
+enum-told c = search needs
+
+write-accepted-requires-2 : tie.Need-write-accepted-requires-2
+write-accepted-requires-2 c κs = search needs
 
 enum-known-answer-2 : tie.Need-enum-known-answer-2
 enum-known-answer-2 c = search needs
@@ -47,11 +54,10 @@ returns c =
     let known = told .before .before .before in
     let judged = known .before .before .before .before .before in
     let entry = judged .before .before .before .before .before .before .before .args in
-    let whole : entry .stage .rows * rowNumbers - 0 ≡ entry .stage .rows * rowNumbers = omega arith in
     frame-told (entry .stage) (entry .table .now) (entry .store .now) _ _ _ _ _ _ (judged .frame .result) _ _
-    (rw whole at (judged .frame .ensures))
-    (rw (known .answer .given .1))
-    (told .write-verdict .ensures)
+    (rw sub-zero at (judged .frame .ensures))
+    (rw (known .answer .given .1, byte-told))
+    (told .write-accepted .ensures)
 
 same-length-3 : tie.Need-same-length-3
 same-length-3 c = search needs
@@ -62,12 +68,28 @@ same-length-4 c = search needs
 returns-2 : tie.Need-returns-2
 returns-2 c =
     let told = c .before .before in
+    let known = told .before .before in
+    let judged = known .before .before .before .before .before in
+    let entry = judged .before .before .before .before .before .before .before .args in
+    frame-told (entry .stage) (entry .table .now) (entry .store .now) _ _ _ _ _ _ (judged .frame .result) _ _
+    (rw sub-zero at (judged .frame .ensures))
+    (rw (known .enum-told .given .1))
+    (told .write-accepted2 .ensures)
+
+same-length-5 : tie.Need-same-length-5
+same-length-5 c = search needs
+
+same-length-6 : tie.Need-same-length-6
+same-length-6 c = search needs
+
+returns-3 : tie.Need-returns-3
+returns-3 c =
+    let told = c .before .before in
     let known = told .before .before .before in
     let judged = known .before .before .before .before .before in
     let entry = judged .before .before .before .before .before .before .before .args in
-    let whole : entry .stage .rows * rowNumbers - 0 ≡ entry .stage .rows * rowNumbers = omega arith in
     frame-told (entry .stage) (entry .table .now) (entry .store .now) _ _ _ _ _ _ (judged .frame .result) _ _
-    (rw whole at (judged .frame .ensures))
+    (rw sub-zero at (judged .frame .ensures))
     (rw (known .answer2 .given .1))
     (told .write-refused .ensures)
 
@@ -81,7 +103,10 @@ judge-spec =
     part-frame-end
     frame-requires
     enum-known-answer
-    write-verdict-requires
+    cast-write-accepted
+    write-accepted-requires
+    enum-told
+    write-accepted-requires-2
     enum-known-answer-2
     write-refused-requires
     same-length
@@ -89,4 +114,7 @@ judge-spec =
     returns
     same-length-3
     same-length-4
-    returns-2)
+    returns-2
+    same-length-5
+    same-length-6
+    returns-3)

@@ -1,9 +1,9 @@
--- `monitor::event::bit_set` meets its contract: a mask has no bit past its last. Assumes nothing.
+-- `times::mask::bit_set` meets its contract: a mask has no bit past its last. Assumes nothing.
 use mathlib.Core.Path.{sym}
 use borrow.Author.Needs.{needs}
-use Rattle.monitor.proofs.RuleLaws.{bit-past}
-use Rattle.monitor.proofs.event.bit_set.Statement.{statement}
-use Rattle.monitor.proofs.event.bit_set.Tie as tie
+use Rattle.times.proofs.MaskLaws.{bit-past}
+use Rattle.times.proofs.mask.bit_set.Statement.{statement}
+use Rattle.times.proofs.mask.bit_set.Tie as tie
 
 shr-result : tie.Need-shr-result
 shr-result c = search needs

@@ -1,0 +1,121 @@
+-- `monitor::heartbeat::clip_rows` meets its contract. The loop's invariant: the counts and the store are those where the rows passed are clipped, and the
+-- next stretch begins where theirs end; one turn is `clip-turn`. The measure is what is left of the rows. Assumes nothing.
+use mathlib.Core.Path.{_≡_, refl, ap, _∙_}
+use Prim.Native.Nat.{_+_, _-_, _≤_, _<_}
+use native.Mathlib.Omega.{arith}
+use lib.ListN.{length, getD}
+use denote.Ref.{now}
+use borrow.Author.Needs.{needs}
+use Rattle.rules.specs.Limits.{rowLimit}
+use Rattle.rules.specs.Stretches.{offset}
+use Rattle.monitor.specs.Event.{spansClipped, countsWith, wordsDone, storeWith}
+use Rattle.monitor.specs.Core.{heldOf, ClipReady, SpansLeft}
+use Rattle.monitor.proofs.ClippingLaws.{length-clipped, clip-ready, clip-turn, clip-next}
+use Rattle.monitor.proofs.heartbeat.clip_rows.Statement.{statement}
+use Rattle.monitor.proofs.heartbeat.clip_rows.Tie as tie
+
+abbrev Inv-loop : tie.InvT-loop
+Inv-loop table store₀ rows time counts₀ from₀ row₀ store counts from row =
+    (row ≤ rows)
+    × (from ≡ offset table row)
+    × SpansLeft table store₀ counts₀ (spansClipped table store₀ counts₀ time) row counts store
+
+abbrev μ-loop : tie.MeasureT-loop
+μ-loop table store₀ rows time counts₀ from₀ row₀ store counts from row = rows - row
+
+loop-holds : tie.Need-loop-holds Inv-loop μ-loop
+unfolding offset countsWith wordsDone storeWith
+loop-holds c = (omega arith, refl, record { counts-are = refl; store-is = refl })
+
+numbers-at-requires : tie.Need-numbers-at-requires Inv-loop μ-loop
+numbers-at-requires c κs = search needs
+
+words-requires : tie.Need-words-requires Inv-loop μ-loop
+words-requires c κs = search needs
+
+-- The store keeps its length.
+same-size : (c : tie.At-loop Inv-loop μ-loop) → length (c .loop .store) ≡ length (now (c .before .before .before .args .store))
+same-size c = ap length (c .loop .inv .2 .store-is) ∙ length-clipped _ _ _ _ _ (c .before .before .before .pre) _ (c .loop .inv .0)
+
+-- The row is one of the table's, and its stretch can be clipped.
+few : (c : tie.In-loop Inv-loop μ-loop) → c .before .loop .row < rowLimit
+few c = omega (arith, c .before .before .before .before .pre .few)
+
+module _ (c : tie.After-words Inv-loop μ-loop) where
+  abbrev turn : tie.In-loop Inv-loop μ-loop
+  turn = c .before .before
+
+  abbrev at-start : tie.Start Inv-loop μ-loop
+  at-start = turn .before .before .before .before
+
+  ready : ClipReady (turn .before .loop .from) (turn .before .loop .from + c .words .result) (turn .before .loop .store)
+      (heldOf (getD (turn .before .loop .counts) (turn .before .loop .row) 0))
+  ready =
+      clip-ready _ _ _ _ _ (at-start .pre) (omega arith) (turn .before .loop .inv .1) (turn .before .loop .inv .2)
+      (c .before .numbers-at .ensures) (c .words .ensures) refl
+
+add-end : tie.Need-add-end Inv-loop μ-loop
+add-end c = omega (arith, ready c .inside, same-size (turn c .before))
+
+mul-count : tie.Need-mul-count Inv-loop μ-loop
+mul-count c = omega (arith, few (turn c))
+
+element-copy-out-count : tie.Need-element-copy-out-count Inv-loop μ-loop
+element-copy-out-count c = few (turn c)
+
+clip-in-requires : tie.Need-clip-in-requires Inv-loop μ-loop
+clip-in-requires c κs = ready (c .before .before)
+
+abbrev words-of : tie.After-slice-known2 Inv-loop μ-loop → tie.After-words Inv-loop μ-loop
+words-of c = c .before .before .before .before .before
+
+mul-counts : tie.Need-mul-counts Inv-loop μ-loop
+mul-counts c = omega (arith, few (turn (words-of c)))
+
+element-write-counts : tie.Need-element-write-counts Inv-loop μ-loop
+element-write-counts c = few (turn (words-of c))
+
+add-row : tie.Need-add-row Inv-loop μ-loop
+add-row c = omega (arith, few (turn (words-of c)))
+
+loop-less : tie.Need-loop-less Inv-loop μ-loop
+loop-less c = omega arith
+
+loop-again : tie.Need-loop-again Inv-loop μ-loop
+loop-again c =
+    let w = words-of c in
+    let l = turn w .before .loop in (
+      omega arith,
+      clip-next _ _ _ _ _ (at-start w .pre) (omega arith) (l .inv .1) (l .inv .2) (w .before .numbers-at .ensures) (w .words .ensures) refl,
+      clip-turn _ _ _ _ _ (at-start w .pre) (omega arith) (l .inv .1) (l .inv .2) (w .before .numbers-at .ensures) (w .words .ensures) refl
+          (c .before .before .clip-in .ensures),
+    )
+
+same-length : tie.Need-same-length Inv-loop μ-loop
+same-length c = same-size (c .before)
+
+returns : tie.Need-returns Inv-loop μ-loop
+returns c =
+    let all : c .before .loop .row ≡ c .before .before .before .before .args .rows = omega arith in
+    rw all at (c .before .loop .inv .2)
+
+pub clip-rows-spec : {M : Type 1} → statement M
+clip-rows-spec =
+    tie.close
+    (tie.spec
+    Inv-loop
+    μ-loop
+    loop-holds
+    numbers-at-requires
+    words-requires
+    add-end
+    mul-count
+    element-copy-out-count
+    clip-in-requires
+    mul-counts
+    element-write-counts
+    add-row
+    loop-less
+    loop-again
+    same-length
+    returns)

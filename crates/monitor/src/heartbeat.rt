@@ -1,0 +1,46 @@
+// A heartbeat (document 02, E2): every row's spans are clipped at its time, and nothing else of the rows changes. It refuses nothing; whoever calls has
+// checked the table, the store, the record and the time.
+
+use rules::limits::ROW_LIMIT;
+use rules::numbers::numbers_at;
+use rules::stretch;
+use spans::stretch::Held;
+use spans::stretch::clip;
+ghost use Rattle.monitor.specs.Event.{spansClipped};
+ghost use Rattle.monitor.specs.Core.{heldOf, ClipReady, ClippedIn, SpansLeft, RowsLaid};
+
+// Every stretch is clipped. The array holds the found counts, and then those after the heartbeat.
+pub(crate) fn clip_rows(
+    table: &[u32],
+    store: &mut [u64],
+    rows: usize,
+    time: u64,
+    counts: &mut [u32; ROW_LIMIT],
+)
+    requires { ⌜ RowsLaid (now table) (now store) (now counts) rows ⌝ }
+    ensures { λ r. ⌜ SpansLeft (now (table .entry)) (now (store .entry)) (now (counts .entry))
+        (spansClipped (now (table .entry)) (now (store .entry)) (now (counts .entry)) time) rows (now (counts .exit)) (now (store .exit)) ⌝ }
+{
+    let mut from = 0;
+    let mut row = 0;
+    while row < rows {
+        let numbers = numbers_at(table, row);
+        let end = from + stretch::words(numbers) as usize;
+        let count = counts[row];
+        counts[row] = clip_in(store, from, end, count, time);
+        from = end;
+        row += 1;
+    }
+}
+
+// The stretch from word `from` to word `end` of the store is lent on as a mutable part; its other words stay. How many spans are left.
+fn clip_in(store: &mut [u64], from: usize, end: usize, count: u32, time: u64) -> u32
+    requires { ⌜ ClipReady from end (now store) (heldOf count) ⌝ }
+    ensures { λ r. ⌜ ClippedIn from end (now (store .entry)) (heldOf count) time r (now (store .exit)) ⌝ }
+{
+    let held = Held {
+        count: count as usize,
+    };
+    let left = clip(&mut store[from..end], held, time);
+    left.count as u32
+}
