@@ -41,10 +41,10 @@ use denote.Triple.Entry.{Vals, onEntry}
 use denote.Triple.Spec.{Meets, tripleOf}
 use denote.Triple.Walked.{says, Stays, stay-none, stay-none-slice, gave-slice, stay-ref, walkOf, goes-none, goes-none-slice, goes-gave-slice, goes-ref, Walks, ends-at, walked, walk-meets}
 use denote.Triple.Clauses.{Ended, Clauses, closing, ensured, lasts}
-use Rattle.monitor.specs.declared.record.Record.{Record}
+use Rattle.soundness.specs.declared.record.Record.{Record}
 use Rattle.monitor.specs.Step.{Call, setupOf}
-use Rattle.monitor.proofs.record.Record as T
-use Rattle.monitor.proofs.record.Record.Laws as T′
+use Rattle.soundness.proofs.record.Record as T
+use Rattle.soundness.proofs.record.Record.Laws as T′
 use Rattle.board.specs.declared.code.Coded.{Coded}
 use Rattle.board.specs.Left.{CallLeaves}
 use Rattle.board.proofs.code.Coded as J

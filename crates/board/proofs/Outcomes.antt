@@ -4,7 +4,7 @@ use mathlib.Core.List.{List}
 use mathlib.Core.Path.{_≡_, ap}
 use Prim.Native.Nat.{ℕ}
 use Rattle.meaning.proofs.OneValue.{one-value}
-use Rattle.monitor.specs.declared.record.Record.{Record}
+use Rattle.soundness.specs.declared.record.Record.{Record}
 use Rattle.monitor.specs.Step.{Setup, Call}
 use Rattle.board.specs.Left.{Left, left, StartLeaves, CallLeaves}
 use Rattle.board.specs.Numbers.{Taken, checked, CheckLeaves, Timed, timed, TimeLeaves, LineGiven, line, LineLeaves}

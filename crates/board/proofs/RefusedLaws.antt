@@ -10,9 +10,9 @@ use lib.ListN.{length}
 use Rattle.meaning.specs.Heartbeat.{heartbeat?}
 use Rattle.refusals.specs.Refusals.{Refused}
 use Rattle.rules.specs.Table as Table
-use Rattle.monitor.specs.declared.record.Record.{Record}
-use Rattle.monitor.specs.Record.{nothingSeen}
-use Rattle.monitor.specs.Ready.{readyOf}
+use Rattle.soundness.specs.declared.record.Record.{Record}
+use Rattle.soundness.specs.Record.{nothingSeen}
+use Rattle.soundness.specs.Ready.{readyOf}
 use Rattle.monitor.specs.Start.{begin, startOf}
 use Rattle.monitor.specs.Event.{recordAfter}
 use Rattle.monitor.specs.Step.{Setup, Call, TimeReply, at, notAt, maskOf, verdict, clockMoved, momentOf, verdictOf, outcomeBy, refusalOf, stepOf}

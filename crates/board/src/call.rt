@@ -3,7 +3,7 @@
 use crate::code::Coded;
 use crate::event::event_coded;
 use crate::frame::frame_coded;
-use monitor::record::Record;
+use soundness::record::Record;
 ghost use Rattle.monitor.specs.Step.{setupOf};
 ghost use Rattle.board.specs.Left.{CallLeaves};
 ghost use Rattle.board.specs.Call.{callOf};

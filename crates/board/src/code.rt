@@ -1,9 +1,9 @@
 // What a call answers, as one 32-bit number.
 
 use monitor::answer::Answer;
-use monitor::record::Record;
 use refusals::refusal;
 use refusals::refusal::Refusal;
+use soundness::record::Record;
 ghost use mathlib.Core.Path.{_≡_};
 ghost use Rattle.refusals.specs.Refusals.{refused};
 ghost use Rattle.monitor.specs.Step.{said};

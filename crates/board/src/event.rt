@@ -2,8 +2,8 @@
 
 use crate::code::Coded;
 use crate::code::code;
-use monitor::record::Record;
 use monitor::step;
+use soundness::record::Record;
 ghost use Rattle.monitor.specs.Step as Step;
 ghost use Rattle.monitor.specs.Step.{setupOf};
 ghost use Rattle.board.specs.Left.{CallLeaves};

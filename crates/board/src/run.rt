@@ -2,8 +2,8 @@
 
 use crate::call::Call;
 use crate::call::judge;
-use monitor::record::Record;
 use rules::numbers::number_at;
+use soundness::record::Record;
 ghost use mathlib.Core.Path.{_≡_};
 ghost use Prim.Native.Nat.{min};
 ghost use lib.ListN.{set};

@@ -3,8 +3,8 @@
 use crate::code::Coded;
 use crate::code::refusal_code;
 use monitor::answer::StartAnswer;
-use monitor::record::Record;
 use monitor::start;
+use soundness::record::Record;
 ghost use Rattle.board.specs.Left.{StartLeaves};
 
 // Refusals 1 to 4 and an all-zero record; or a record that has seen no event, its clock 0, and zeros in the words of the need.

@@ -2,7 +2,7 @@
 use mathlib.Core.List.{List, [], _∷_, _++_, map-append}
 use mathlib.Core.Path.{_≡_, refl, sym, ap, _∙_}
 use Prim.Native.Nat.{ℕ}
-use Rattle.monitor.specs.declared.record.Record.{Record}
+use Rattle.soundness.specs.declared.record.Record.{Record}
 use Rattle.monitor.specs.Step.{setupOf, Call, Reply, stepOf}
 use Rattle.promises.specs.Stream.{State, call, next, after, started}
 use Rattle.promises.specs.LineTimes.{replies}

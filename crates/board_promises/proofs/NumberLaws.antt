@@ -3,7 +3,7 @@ use mathlib.Core.List.{List}
 use native.Mathlib.Omega.{arith}
 use Prim.Native.Nat.{ℕ, _≤_}
 use Rattle.refusals.specs.Refusals.{Refused}
-use Rattle.monitor.specs.declared.record.Record.{Record}
+use Rattle.soundness.specs.declared.record.Record.{Record}
 use Rattle.monitor.specs.Step.{Setup, Call}
 use Rattle.promises.specs.Refusing as Refusing
 use Rattle.promises.specs.Refusing.{TableRefused, StartRefused, CallRefused}

@@ -6,7 +6,7 @@ use native.Mathlib.Omega.{arith}
 use Prim.Native.Nat.{ℕ}
 use Rattle.refusals.specs.Refusals.{Refused, refused}
 use Rattle.refusals.specs.declared.refusal.Refusal.the-variants.{Unsound}
-use Rattle.monitor.specs.declared.record.Record.{Record}
+use Rattle.soundness.specs.declared.record.Record.{Record}
 use Rattle.monitor.specs.Step.{setupOf, Call, Reply, stepOf}
 use Rattle.promises.specs.Conditions.{RecordRight}
 use Rattle.promises.specs.Refusing.{CallRefused, seven}

@@ -9,7 +9,7 @@ use Rattle.refusals.specs.Refusals.{Refused}
 use Rattle.rules.specs.Rows.{rowsOf}
 use Rattle.rules.specs.Stretches.{needOf}
 use Rattle.rules.specs.Table.{passed, refusedBy}
-use Rattle.monitor.specs.declared.record.Record.{Record}
+use Rattle.soundness.specs.declared.record.Record.{Record}
 use Rattle.monitor.specs.Start.{begin, startOf}
 use Rattle.promises.specs.Conditions.{Ready}
 use Rattle.promises.specs.Refusing.{StartRefused}

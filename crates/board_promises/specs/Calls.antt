@@ -3,7 +3,7 @@
 use mathlib.Core.List.{List, map}
 use mathlib.Core.Path.{_≡_}
 use Prim.Native.Nat.{ℕ}
-use Rattle.monitor.specs.declared.record.Record.{Record}
+use Rattle.soundness.specs.declared.record.Record.{Record}
 use Rattle.monitor.specs.Step.{Call}
 use Rattle.promises.specs.Stream.{State, after, started}
 use Rattle.promises.specs.LineTimes.{replies}

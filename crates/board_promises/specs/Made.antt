@@ -2,7 +2,7 @@
 -- leaves a record and words there.
 use mathlib.Core.List.{List, [], _∷_, _++_}
 use Prim.Native.Nat.{ℕ}
-use Rattle.monitor.specs.declared.record.Record.{Record}
+use Rattle.soundness.specs.declared.record.Record.{Record}
 use Rattle.monitor.specs.Step.{setupOf, Call}
 use Rattle.board.specs.Left.{CallLeaves}
 

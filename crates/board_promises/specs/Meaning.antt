@@ -8,7 +8,7 @@ use Rattle.meaning.specs.Formula.{Holds}
 use Rattle.refusals.specs.Refusals.{refused, numberOf}
 use Rattle.refusals.specs.declared.refusal.Refusal.the-variants.{Earlier, Late}
 use Rattle.times.specs.Times.{timeLimit}
-use Rattle.monitor.specs.declared.record.Record.{Record}
+use Rattle.soundness.specs.declared.record.Record.{Record}
 use Rattle.monitor.specs.Step.{setupOf, Call, timeOf}
 use Rattle.promises.specs.Stream.{Keeps, Beats, clock, longer}
 use Rattle.promises.specs.Verdicts.{judgedFormula}

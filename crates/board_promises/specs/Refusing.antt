@@ -8,7 +8,7 @@ use lib.ListN.{length, getD}
 use Rattle.refusals.specs.Refusals.{Refused, refused}
 use Rattle.refusals.specs.declared.refusal.Refusal.the-variants.{Unsound}
 use Rattle.rules.specs.Limits.{rowLimit}
-use Rattle.monitor.specs.declared.record.Record.{Record}
+use Rattle.soundness.specs.declared.record.Record.{Record}
 use Rattle.monitor.specs.Step.{setupOf, Call}
 use Rattle.promises.specs.Conditions.{Ready}
 use Rattle.promises.specs.Refusing.{CallRefused}

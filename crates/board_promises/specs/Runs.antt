@@ -4,7 +4,7 @@ use mathlib.Core.List.{List, _++_, map}
 use mathlib.Core.Path.{_≡_}
 use Prim.Native.Nat.{ℕ, _<_, min}
 use lib.ListN.{length, getD, drop}
-use Rattle.monitor.specs.declared.record.Record.{Record}
+use Rattle.soundness.specs.declared.record.Record.{Record}
 use Rattle.monitor.specs.Step.{setupOf, Call}
 use Rattle.promises.specs.Stream.{State, after}
 use Rattle.promises.specs.LineTimes.{replies}

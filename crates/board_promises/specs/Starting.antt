@@ -8,8 +8,8 @@ use lib.ListN.{length, drop, replicate}
 use Rattle.refusals.specs.Refusals.{Refused}
 use Rattle.rules.specs.Rows.{rowsOf}
 use Rattle.rules.specs.Stretches.{needOf}
-use Rattle.monitor.specs.declared.record.Record.{Record}
-use Rattle.monitor.specs.Record.{nothingSeen}
+use Rattle.soundness.specs.declared.record.Record.{Record}
+use Rattle.soundness.specs.Record.{nothingSeen}
 use Rattle.promises.specs.Refusing.{StartRefused}
 use Rattle.promises.specs.Stream.{Starts, started}
 use Rattle.board.specs.Code.{refusalCode}

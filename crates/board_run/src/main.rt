@@ -4,8 +4,8 @@
 use board::run::run_events;
 use board::run::run_frames;
 use libc::STDOUT_FILENO;
-use monitor::record::Record;
 use monitor::start::start;
+use soundness::record::Record;
 
 // p is bit 0, q is bit 1 and the heartbeat's is bit 31 of the mask. The same rule with a kind 9 in row 2, which is refused.
 const P: u32 = 1;

@@ -30,19 +30,19 @@ use Rattle.spans.specs.Layout.{Packed}
 use Rattle.spans.proofs.LayoutLaws.{Storable}
 use Rattle.spans.proofs.SoundTold.{SoundStretch, stretch-told}
 use Rattle.spans.proofs.StretchKept.{sound-packed, sound-ready}
-use Rattle.monitor.specs.declared.record.Record.{Record}
+use Rattle.soundness.specs.declared.record.Record.{Record}
 use Rattle.times.specs.Times.{timeLimit}
-use Rattle.monitor.specs.Record.{wasSeen, truthAt, clockOf, eventTime, heldAt, stretchAt, spansFound}
-use Rattle.monitor.specs.Soundness.{soundEntry?, soundLimits?, soundRow?, sound?}
-use Rattle.monitor.specs.Ready.{readyOf, refusalIn}
+use Rattle.soundness.specs.Record.{wasSeen, truthAt, clockOf, eventTime, heldAt, stretchAt, spansFound}
+use Rattle.soundness.specs.Soundness.{soundEntry?, soundLimits?, soundRow?, sound?}
+use Rattle.soundness.specs.Ready.{readyOf, refusalIn}
 use Rattle.monitor.specs.Event.{Moment, spansBy, spansAfter, truthsAfter, spansJudged, spansClipped, spansNow}
 use Rattle.monitor.specs.Core.{RowsLaid}
 use Rattle.monitor.specs.Step.{Setup, Call, timeOf, unless, refusalOf}
-use Rattle.monitor.proofs.ReadyLaws.{Ready, ready-none}
+use Rattle.soundness.proofs.ReadyLaws.{Ready, ready-none}
 use Rattle.monitor.proofs.EventLaws.{length-stretch, Room}
 use Rattle.monitor.proofs.ClippingLaws.{clipped-fits}
-use Rattle.monitor.proofs.ReachedLaws.{reach-storable}
-use Rattle.monitor.proofs.SoundnessLaws.{every-at, sound-parts}
+use Rattle.spans.proofs.ReachedLaws.{reach-storable}
+use Rattle.soundness.proofs.SoundnessLaws.{every-at, sound-parts}
 
 -- The conditions of a call, each met.
 pub record Accepted (table store : List ℕ) (found : Record) (time : ℕ) : Type 0 where

@@ -16,9 +16,9 @@ use Rattle.spans.specs.Stretch.{ClippedTo}
 use Rattle.spans.proofs.LayoutLaws.{laid-fits}
 use Rattle.spans.proofs.ClipLaws.{clip-shorter}
 use Rattle.spans.proofs.UpdateLaws.{clip-laid}
-use Rattle.monitor.specs.Record.{heldIn, stretchAt}
+use Rattle.soundness.specs.Record.{heldIn, stretchAt, heldOf}
 use Rattle.monitor.specs.Event.{spansClipped, storeWith}
-use Rattle.monitor.specs.Core.{heldOf, stretchIn, ClipReady, ClippedIn, SpansLeft, RowsLaid}
+use Rattle.monitor.specs.Core.{stretchIn, ClipReady, ClippedIn, SpansLeft, RowsLaid}
 use Rattle.monitor.proofs.EventLaws.{length-stretch, Room, length-after, count-found, part-found, part-inside, spans-turn}
 
 -- A part of the store that lays out its spans, clipped: what stands there then, and that no more spans are left than were held.

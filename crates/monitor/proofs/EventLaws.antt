@@ -12,12 +12,12 @@ use Rattle.rules.specs.Stretches.{width, offset}
 use Rattle.rules.specs.declared.numbers.Numbers.{Numbers}
 use Rattle.meaning.specs.Spans.{Span}
 use Rattle.spans.specs.Layout.{spanWords, packed}
-use Rattle.monitor.specs.declared.record.Record.{Record}
-use Rattle.monitor.specs.Record.{stretchAt}
+use Rattle.soundness.specs.declared.record.Record.{Record}
+use Rattle.soundness.specs.Record.{stretchAt}
 use Rattle.monitor.specs.Event.{Moment, spansAfter, truthOf, countsWith, wordsDone, storeWith}
 use Rattle.monitor.specs.Core.{moment, stretchIn, withStretch, SpansLeft}
 use Rattle.spans.proofs.LayoutLaws.{length-packed}
-use Rattle.monitor.proofs.SoundnessLaws.{part-told}
+use Rattle.soundness.proofs.SoundnessLaws.{part-told}
 use Rattle.monitor.proofs.RisingLaws.{count-left}
 
 pub length-stretch : (table store : List ℕ) (row : ℕ)

@@ -1,8 +1,5 @@
 -- Laws that belong to no one function.
-pub mod RecordLaws
-pub mod ReadyLaws
-pub mod SoundnessLaws
-pub mod ReachedLaws
+pub mod StartLaws
 pub mod RuleLaws
 pub mod RowLaws
 pub mod RisingLaws

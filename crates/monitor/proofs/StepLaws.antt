@@ -15,19 +15,20 @@ use Rattle.refusals.specs.Refusals.{Refused, refused, _orElse_}
 use Rattle.rules.specs.Table.{CheckReply, passed, refusedBy}
 use Rattle.refusals.specs.declared.refusal.Refusal.{Refusal}
 use Rattle.refusals.specs.declared.refusal.Refusal.the-variants.{Earlier, Late, Unsound}
-use Rattle.monitor.specs.declared.record.Record.{Record}
+use Rattle.soundness.specs.declared.record.Record.{Record}
 use Rattle.monitor.specs.declared.event.Arrival.{Arrival}
 use Rattle.monitor.specs.declared.answer.Answer.{Answer}
 use Rattle.monitor.specs.declared.answer.Answer.the-variants as Answer
 use Rattle.times.specs.Times.{timeLimit}
-use Rattle.monitor.specs.Record.{truthAt, clockOf, eventTime}
-use Rattle.monitor.specs.Soundness.{sound?}
-use Rattle.monitor.specs.Ready.{readyOf, refusalIn}
+use Rattle.soundness.specs.Record.{truthAt, clockOf, eventTime}
+use Rattle.soundness.specs.Soundness.{sound?}
+use Rattle.soundness.specs.Ready.{readyOf, refusalIn}
 use Rattle.monitor.specs.Step.{Setup, setupOf, Call, event, frame, timeOf, unless, refusalOf, momentOf, Reply, verdict, clockMoved, refusal, Outcome, outcomeBy, stepOf, said}
 use Rattle.monitor.specs.Event.{Moment, spansClipped, recordAfter}
-use Rattle.monitor.specs.Core.{withSound, fitOf, moment, SpansLeft, AfterRows, LeftIn, recordLeft}
-use Rattle.monitor.proofs.ReadyLaws.{ready-gives}
-use Rattle.monitor.proofs.SoundnessLaws.{sound-parts}
+use Rattle.monitor.specs.Core.{moment, SpansLeft, AfterRows, LeftIn, recordLeft}
+use Rattle.soundness.specs.Fit.{withSound, fitOf}
+use Rattle.soundness.proofs.ReadyLaws.{ready-gives}
+use Rattle.soundness.proofs.SoundnessLaws.{sound-parts}
 
 -- A refused call leaves the arrays and the store as they were.
 pub left-refused : (setup : Setup) (store : List ℕ) (found : Record) (call : Call) (fault : Refusal)

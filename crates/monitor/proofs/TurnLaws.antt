@@ -11,9 +11,9 @@ use Rattle.rules.specs.Stretches.{width, offset}
 use Rattle.rules.specs.declared.numbers.Numbers.{Numbers}
 use Rattle.rules.proofs.PassedLaws.{width-most}
 use Rattle.spans.specs.declared.stretch.Held.{Held}
-use Rattle.monitor.specs.declared.record.Record.{Record}
+use Rattle.soundness.specs.declared.record.Record.{Record}
 use Rattle.monitor.specs.declared.event.Judgement.{Judgement}
-use Rattle.monitor.specs.Record.{byteOf, stretchAt}
+use Rattle.soundness.specs.Record.{byteOf, stretchAt}
 use Rattle.monitor.specs.Event.{Moment, arrivalOf, spansAfter, truthOf, truthsAfter, spansJudged, storeWith}
 use Rattle.monitor.specs.Core.{moment, stretchIn, AfterRows, spansAfterIn, RowReady, RowJudged}
 use Rattle.monitor.proofs.RuleLaws.{good-listed}

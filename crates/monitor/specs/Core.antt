@@ -1,5 +1,5 @@
--- What the private functions of src/event, src/heartbeat, src/soundness and src/step ask and leave. No public contract cites this file.
-use mathlib.Core.Bool.{Bool, true, cond}
+-- What the private functions of src/event, src/heartbeat and src/step ask and leave. No public contract cites this file.
+use mathlib.Core.Bool.{Bool, true}
 use mathlib.Core.List.{List, _++_}
 use mathlib.Core.Option.{none}
 use mathlib.Core.Path.{_≡_}
@@ -9,42 +9,22 @@ use Rattle.meaning.specs.Spans.{Span, clip, update}
 use Rattle.rules.specs.Limits.{rowLimit}
 use Rattle.rules.specs.Rows.{numbersAt, ruleOf}
 use Rattle.rules.specs.Stretches.{spansOf, width, offset}
-use Rattle.refusals.specs.Refusals.{refused}
-use Rattle.rules.specs.Table.{CheckReply, passed, refusedBy}
 use Rattle.rules.specs.declared.numbers.Numbers.{Numbers}
-use Rattle.refusals.specs.declared.refusal.Refusal.the-variants as Refusal
 use Rattle.spans.specs.declared.stretch.Held.{Held}
 use Rattle.spans.specs.declared.stretch.Updated.{Updated}
 use Rattle.spans.specs.Layout.{spanWords, packed, spansHeld, Packed}
 use Rattle.spans.specs.Stretch.{covered}
-use Rattle.monitor.specs.declared.record.Record.{Record}
+use Rattle.soundness.specs.declared.record.Record.{Record}
 use Rattle.monitor.specs.declared.answer.Answer.{Answer}
 use Rattle.monitor.specs.declared.answer.Answer.the-variants as Answer
 use Rattle.monitor.specs.declared.event.Arrival.{Arrival}
 use Rattle.monitor.specs.declared.event.Judgement.{Judgement}
 use Rattle.times.specs.Times.{timeLimit}
-use Rattle.monitor.specs.Record.{byteOf, heldIn, stretchAt}
-use Rattle.monitor.specs.Soundness.{sound?}
-use Rattle.monitor.specs.Ready.{readyOf}
+use Rattle.soundness.specs.Record.{byteOf, heldIn, stretchAt, recordOf}
 use Rattle.monitor.specs.Event.{Moment, spansBy, truthBy, truthsAfter, spansJudged, countsWith, storeWith}
 use Rattle.monitor.specs.Step.{setupOf, event, refusalOf, Outcome, stepOf, said}
 
--- 7, "record not sound", after refusals 1 to 4.
-abbrev pub withSound : Bool → CheckReply → CheckReply
-withSound sound (passed rows need) = cond sound (passed rows need) (refusedBy (refused Refusal.Unsound))
-withSound sound (refusedBy fault) = refusedBy fault
-
-unfoldable pub fitOf : List ℕ → List ℕ → Record → CheckReply
-fitOf table store found = withSound (sound? table store found) (readyOf table (length store))
-
--- What is held of a stretch, a record, and an event, by their parts.
-abbrev pub heldOf : ℕ → Held
-heldOf count = record { count = count }
-
-abbrev pub recordOf : (seen clock last rows : ℕ) (truths counts : List ℕ) → Record
-recordOf seen clock last rows truths counts =
-    record { seen = seen; clock = clock; last = last; rows = rows; truths = truths; counts = counts }
-
+-- A moment by its parts.
 abbrev pub moment : (table store : List ℕ) → Record → (time mask : ℕ) → Moment
 moment table store found time mask = record { table = table; store = store; found = found; time = time; mask = mask }
 

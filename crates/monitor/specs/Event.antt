@@ -15,9 +15,9 @@ use Rattle.rules.specs.Stretches.{width, offset}
 use Rattle.rules.specs.declared.numbers.Numbers.{Numbers}
 use Rattle.spans.specs.Layout.{packed, spansHeld}
 use Rattle.spans.specs.Stretch.{covered}
-use Rattle.monitor.specs.declared.record.Record.{Record}
+use Rattle.soundness.specs.declared.record.Record.{Record}
 use Rattle.monitor.specs.declared.event.Arrival.{Arrival}
-use Rattle.monitor.specs.Record.{byteOf, isTrue, truthAt, clockOf, eventTime, heldIn, stretchAt, spansFound}
+use Rattle.soundness.specs.Record.{byteOf, isTrue, truthAt, clockOf, eventTime, heldIn, stretchAt, spansFound}
 
 -- An event or a heartbeat, and what it meets: the table, the store and the record as they were found.
 pub record Moment : Type 0 where

@@ -1,7 +1,4 @@
 -- What a reader must believe of the monitor, in the order in which to read it. `Core` is the crate's own: no public contract cites it.
-pub mod Record
-pub mod Soundness
-pub mod Ready
 pub mod Start
 pub mod Event
 pub mod Step

@@ -7,12 +7,12 @@ use Prim.Native.Nat.{ℕ}
 use lib.ListN.{length, drop, replicate}
 use Rattle.refusals.specs.Refusals.{Refused, refused}
 use Rattle.rules.specs.Table.{CheckReply, passed, refusedBy}
-use Rattle.monitor.specs.declared.record.Record.{Record}
+use Rattle.soundness.specs.declared.record.Record.{Record}
 use Rattle.monitor.specs.declared.answer.StartAnswer.{StartAnswer}
 use Rattle.monitor.specs.declared.answer.StartAnswer.the-variants as StartAnswer
 use Rattle.monitor.specs.declared.answer.Started.{Started}
-use Rattle.monitor.specs.Record.{nothingSeen}
-use Rattle.monitor.specs.Ready.{readyOf}
+use Rattle.soundness.specs.Record.{nothingSeen}
+use Rattle.soundness.specs.Ready.{readyOf}
 
 -- What a start gives: its refusal, if any, the words of the need, 0 where it is refused, the record, and the store at the end.
 pub record Beginning : Type 0 where

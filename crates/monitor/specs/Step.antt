@@ -12,16 +12,16 @@ use Rattle.rules.specs.Rows.{rowsOf}
 use Rattle.refusals.specs.Refusals.{Refused, refused, _orElse_}
 use Rattle.refusals.specs.declared.refusal.Refusal.{Refusal}
 use Rattle.refusals.specs.declared.refusal.Refusal.the-variants.{Earlier, Late, Unsound}
-use Rattle.monitor.specs.declared.record.Record.{Record}
+use Rattle.soundness.specs.declared.record.Record.{Record}
 use Rattle.monitor.specs.declared.answer.Answer.{Answer}
 use Rattle.monitor.specs.declared.answer.Answer.the-variants as Answer
 use Rattle.monitor.specs.declared.answer.Judged.{Judged}
 use Rattle.monitor.specs.declared.answer.Timed.{Timed}
 use Rattle.monitor.specs.declared.answer.Timed.the-variants as Timed
 use Rattle.times.specs.Times.{timeLimit}
-use Rattle.monitor.specs.Record.{truthAt, clockOf}
-use Rattle.monitor.specs.Soundness.{sound?}
-use Rattle.monitor.specs.Ready.{readyOf, refusalIn}
+use Rattle.soundness.specs.Record.{truthAt, clockOf}
+use Rattle.soundness.specs.Soundness.{sound?}
+use Rattle.soundness.specs.Ready.{readyOf, refusalIn}
 use Rattle.monitor.specs.Event.{Moment, heartbeatElse, storeAfter, recordAfter}
 
 -- What is judged by: today the table alone.

@@ -1,7 +1,7 @@
 // What the monitor's calls answer.
 
-use crate::record::Record;
 use refusals::refusal::Refusal;
+use soundness::record::Record;
 
 // The answer to a call: an event's verdict, that a heartbeat moved the clock, or a refusal with its number and row.
 pub enum Answer {

@@ -1,9 +1,8 @@
 // One event, rows rising (document 01, "Spans, store and record"): the core over lent arrays and the lent store. It refuses nothing; whoever
 // calls has checked the table, the store, the record and the time. No record goes into it: a row is judged from the few values that it needs.
 
-use crate::reached::last_reached;
-use crate::record::byte_of;
-use crate::record::truth_at;
+use crate::truths::byte_of;
+use crate::truths::truth_at;
 use rules::limits::ROW_LIMIT;
 use rules::numbers::Numbers;
 use rules::numbers::numbers_at;
@@ -12,6 +11,7 @@ use rules::plain::Plain;
 use rules::stretch;
 use rules::stretch::Feed;
 use rules::stretch::Keep;
+use spans::reached::last_reached;
 use spans::stretch::Held;
 use spans::stretch::Updated;
 use spans::stretch::update;
@@ -29,9 +29,9 @@ ghost use Rattle.rules.specs.Kinds.{ownsStretch};
 ghost use Rattle.rules.specs.Rows.{rowsOf, ruleOf, keptBy, feeder, taken};
 ghost use Rattle.spans.specs.Layout.{endAt};
 ghost use Rattle.times.specs.Times.{timeLimit};
-ghost use Rattle.monitor.specs.Record.{truthAt};
+ghost use Rattle.soundness.specs.Record.{truthAt, heldOf};
 ghost use Rattle.monitor.specs.Event.{previousHeld, truthBy};
-ghost use Rattle.monitor.specs.Core.{heldOf, Unrefused, momentMet, UpdateReady, UpdatedIn, AfterRows, RowReady, RowJudged};
+ghost use Rattle.monitor.specs.Core.{Unrefused, momentMet, UpdateReady, UpdatedIn, AfterRows, RowReady, RowJudged};
 
 // A call, and what the record tells of those before it: the clock, by which no row is judged; whether an event was seen, and its time. Each row's truth at
 // that event is lent beside this.

@@ -7,7 +7,8 @@ use rules::stretch;
 use spans::stretch::Held;
 use spans::stretch::clip;
 ghost use Rattle.monitor.specs.Event.{spansClipped};
-ghost use Rattle.monitor.specs.Core.{heldOf, ClipReady, ClippedIn, SpansLeft, RowsLaid};
+ghost use Rattle.monitor.specs.Core.{ClipReady, ClippedIn, SpansLeft, RowsLaid};
+ghost use Rattle.soundness.specs.Record.{heldOf};
 
 // Every stretch is clipped. The array holds the found counts, and then those after the heartbeat.
 pub(crate) fn clip_rows(

@@ -2,9 +2,9 @@
 
 use crate::answer::StartAnswer;
 use crate::answer::Started;
-use crate::ready::ready;
-use crate::record::nothing_seen;
 use rules::table::Checked;
+use soundness::ready::ready;
+use soundness::record::nothing_seen;
 use spans::words::clear_words;
 ghost use Rattle.monitor.specs.Start.{StartGives};
 

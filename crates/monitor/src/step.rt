@@ -7,12 +7,11 @@ use crate::event::Arrival;
 use crate::event::judge_rows;
 use crate::frame_time::time_shown;
 use crate::heartbeat::clip_rows;
-use crate::ready::ready;
-use crate::record::Record;
-use crate::soundness::sound_record;
 use refusals::refusal::Refusal;
 use rules::limits::ROW_LIMIT;
 use rules::table::Checked;
+use soundness::fit::fit;
+use soundness::record::Record;
 use times::mask::is_heartbeat;
 use times::time::TIME_LIMIT;
 ghost use mathlib.Core.Bool.{true, false};
@@ -21,10 +20,10 @@ ghost use mathlib.Core.Path.{_≡_};
 ghost use lib.ListN.{length};
 ghost use Rattle.meaning.specs.Heartbeat.{heartbeat?};
 ghost use Rattle.rules.specs.Rows.{rowsOf};
-ghost use Rattle.rules.specs.Table.{checkReply};
-ghost use Rattle.monitor.specs.Core.{recordOf, recordMet, outcomeMet, Unrefused, fitOf, LeftIn, recordLeft};
-ghost use Rattle.monitor.specs.Soundness.{sound?};
-ghost use Rattle.monitor.specs.Ready.{readyOf, refusalIn};
+ghost use Rattle.monitor.specs.Core.{recordMet, outcomeMet, Unrefused, LeftIn, recordLeft};
+ghost use Rattle.soundness.specs.Record.{recordOf};
+ghost use Rattle.soundness.specs.Soundness.{sound?};
+ghost use Rattle.soundness.specs.Ready.{readyOf, refusalIn};
 ghost use Rattle.monitor.specs.Step.{setupOf, event, frame, StepGives};
 
 // The verdict on an event, that a heartbeat moved the clock, or a refusal 1 to 4, 7, 6 or 5, with the record after it. No word past the need is written.
@@ -77,7 +76,16 @@ fn judge(
     ensures { λ r. ⌜ LeftIn (outcomeMet (now (table .entry)) (now (store .entry)) arrival count (now (truths .entry)) (now (counts .entry)))
         r (now (truths .exit)) (now (counts .exit)) (now (store .exit)) ⌝ }
 {
-    let checked = fit(table, store, arrival, count, truths, counts);
+    let checked = fit(
+        table,
+        store,
+        arrival.seen,
+        arrival.clock,
+        arrival.last,
+        count,
+        truths,
+        counts,
+    );
     match checked {
         Checked::Refused(refusal) => Answer::Refused(refusal),
         Checked::Passed { rows, need: _ } => judge_sound(
@@ -88,40 +96,6 @@ fn judge(
             truths,
             counts,
         ),
-    }
-}
-
-// Refusals 1 to 4, then 7.
-fn fit(
-    table: &[u32],
-    store: &[u64],
-    arrival: Arrival,
-    count: u32,
-    truths: &[u8; ROW_LIMIT],
-    counts: &[u32; ROW_LIMIT],
-) -> Checked
-    ensures { λ r. ⌜ checkReply r ≡ fitOf (now (table .entry)) (now (store .entry))
-        (recordMet arrival count (now (truths .entry)) (now (counts .entry))) ⌝ }
-{
-    let checked = ready(table, store.len());
-    match checked {
-        Checked::Refused(refusal) => Checked::Refused(refusal),
-        Checked::Passed { rows, need } => {
-            if sound_record(
-                table,
-                store,
-                rows as usize,
-                arrival.seen,
-                arrival.clock,
-                arrival.last,
-                count,
-                truths,
-                counts,
-            ) {
-                return Checked::Passed { rows, need };
-            }
-            Checked::Refused(Refusal::Unsound)
-        }
     }
 }
 

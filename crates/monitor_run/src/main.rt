@@ -7,14 +7,14 @@ use lines::frame::FrameFound;
 use lines::reader::frame_at;
 use monitor::answer::Answer;
 use monitor::answer::StartAnswer;
-use monitor::record::Record;
-use monitor::record::nothing_seen;
 use monitor::start::start;
 use monitor::step;
 use refusals::refusal;
 use refusals::refusal::Refusal;
 use rules::limits::ROW_NUMBERS;
 use rules::numbers::number_at;
+use soundness::record::Record;
+use soundness::record::nothing_seen;
 use times::interval::NO_END;
 
 const P: u32 = 1;

@@ -15,7 +15,7 @@ use Rattle.rules.specs.Rows.{rowsOf}
 use Rattle.refusals.specs.Refusals.{Refused, refused}
 use Rattle.refusals.specs.declared.refusal.Refusal.the-variants.{Earlier, Late}
 use Rattle.times.specs.Times.{timeLimit}
-use Rattle.monitor.specs.Record.{truthAt, clockOf}
+use Rattle.soundness.specs.Record.{truthAt, clockOf}
 use Rattle.monitor.specs.Step.{setupOf, Call, timeOf, maskOf, refusalOf, verdict, clockMoved, refusal, stepOf}
 use Rattle.promises.specs.Stream.{State, call, next, accepted?, Keeps, keeps?, eventOf, Beats}
 use Rattle.promises.proofs.Invariant.{Invariant}

@@ -9,7 +9,7 @@ use lib.Dec.{T}
 use Rattle.meaning.proofs.Truths.{no-truth}
 use Rattle.meaning.proofs.Tells.{Tells, tells-and, tells-same}
 use Rattle.refusals.specs.Refusals.{Refused}
-use Rattle.monitor.specs.Soundness.{every}
+use Rattle.soundness.specs.Soundness.{every}
 
 pub told-true : {s : Bool} {A : Type 0} → Tells s A → A → s ≡ true
 told-true {s = true} told holds = refl

@@ -31,7 +31,7 @@ use Rattle.rules.specs.declared.stretch.Stretch.{Stretch}
 use Rattle.rules.proofs.KindsLaws.{PlainNames, KeeperLower, Names}
 use Rattle.rules.proofs.PassedLaws.{range-order, passed-formula}
 use Rattle.times.specs.Times.{timeLimit}
-use Rattle.monitor.specs.Record.{wasSeen, truthAt, clockOf, eventTime}
+use Rattle.soundness.specs.Record.{wasSeen, truthAt, clockOf, eventTime}
 use Rattle.spans.proofs.CoverLaws.{covered-told}
 use Rattle.monitor.proofs.EventLaws.{Room, length-store}
 use Rattle.monitor.proofs.RisingLaws.{truth-told}

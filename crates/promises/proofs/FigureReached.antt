@@ -28,7 +28,7 @@ use Rattle.rules.specs.Table.{lengthPasses, rowPasses, limitsPass, faultOf, fir
 use Rattle.rules.specs.declared.stretch.Stretch.{Stretch}
 use Rattle.rules.proofs.PassedLaws.{range-cases, range-order}
 use Rattle.times.specs.Times.{timeLimit}
-use Rattle.monitor.specs.Ready.{readyOf}
+use Rattle.soundness.specs.Ready.{readyOf}
 use Rattle.monitor.specs.Start.{startOf}
 use Rattle.monitor.specs.Step.{Call, event}
 use Rattle.promises.specs.Stream.{Starts, kept, state, history, clock}

@@ -12,7 +12,7 @@ use Rattle.meaning.specs.Heartbeat.{trueEvents}
 use Rattle.meaning.proofs.FrameTimeLaws.{true-close, next-true}
 use Rattle.times.specs.Times.{timeLimit}
 use Rattle.monitor.specs.Step.{Call, event, frame, timeOf, Reply}
-use Rattle.monitor.specs.Record.{clockOf}
+use Rattle.soundness.specs.Record.{clockOf}
 use Rattle.promises.specs.Stream.{State, call, next, started, accepted?, Keeps, keeps?, eventOf, kept}
 use Rattle.promises.specs.LineTimes.{replies, recordTimes, Every, acceptedTimes}
 use Rattle.promises.specs.FrameTimes.{frameCounters, ofFrames, FrameTimesAreTrue}

@@ -14,7 +14,7 @@ use Rattle.meaning.proofs.RunsLaws.{runs-later}
 use Rattle.rules.specs.Kinds.{Rule, plain, stretch}
 use Rattle.rules.specs.Rows.{rowsOf, numbersAt, ruleOf}
 use Rattle.times.specs.Times.{timeLimit}
-use Rattle.monitor.specs.Record.{clockOf}
+use Rattle.soundness.specs.Record.{clockOf}
 use Rattle.monitor.specs.Event.{Moment, spansNow, recordAfter, storeAfter}
 use Rattle.monitor.proofs.EventLaws.{Room, length-store}
 use Rattle.promises.specs.Stream.{State}

@@ -13,7 +13,7 @@ use Rattle.rules.specs.Rows.{rowsOf, numbersAt, ruleOf}
 use Rattle.rules.specs.Stretches.{width}
 use Rattle.rules.specs.RowFormula.{formulaOf}
 use Rattle.spans.specs.Layout.{Laid}
-use Rattle.monitor.specs.Record.{wasSeen, truthAt, heldAt, stretchAt, clockOf, eventTime}
+use Rattle.soundness.specs.Record.{wasSeen, truthAt, heldAt, stretchAt, clockOf, eventTime}
 use Rattle.promises.specs.Stream.{State}
 use Rattle.promises.specs.Conditions.{Ready, RecordRight}
 use Rattle.promises.specs.SoundIsKept.{Sized}

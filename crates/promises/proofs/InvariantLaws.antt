@@ -8,7 +8,7 @@ use Rattle.rules.specs.Rows.{rowsOf, numbersAt, ruleOf}
 use Rattle.rules.specs.Stretches.{needOf}
 use Rattle.rules.proofs.PassedLaws.{InRange, Passed, passed-gives}
 use Rattle.times.specs.Times.{timeLimit}
-use Rattle.monitor.specs.Record.{spansFound}
+use Rattle.soundness.specs.Record.{spansFound}
 use Rattle.spans.proofs.LayoutLaws.{laid-read}
 use Rattle.promises.specs.Stream.{State}
 use Rattle.promises.proofs.Invariant.{Invariant}

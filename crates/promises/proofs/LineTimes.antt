@@ -6,7 +6,7 @@ use native.Mathlib.Omega.{arith}
 use Rattle.meaning.specs.FrameTime.{frameTime}
 use Rattle.refusals.specs.Refusals.{Refused, refused, numberOf}
 use Rattle.refusals.specs.declared.refusal.Refusal.the-variants.{Earlier}
-use Rattle.monitor.specs.declared.record.Record.{Record}
+use Rattle.soundness.specs.declared.record.Record.{Record}
 use Rattle.monitor.specs.Step.{Setup, Call, event, frame, frameOf}
 use Rattle.promises.specs.Stream.{State, next, started}
 use Rattle.promises.specs.Refusing as Refusing

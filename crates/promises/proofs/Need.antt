@@ -7,7 +7,7 @@ use Rattle.rules.specs.Kinds.{kindAt}
 use Rattle.rules.specs.Rows.{rowsOf, numbersAt}
 use Rattle.rules.specs.Stretches.{offset}
 use Rattle.rules.specs.declared.numbers.Numbers.{Numbers}
-use Rattle.monitor.proofs.ReadyLaws.{start-need}
+use Rattle.monitor.proofs.StartLaws.{start-need}
 use Rattle.promises.specs.Need.{OwnsStretch, Needs, none, since, other, NeedFollows}
 use Rattle.promises.proofs.StretchTold.{since-or-other, other-rule, since-spans, other-spans}
 

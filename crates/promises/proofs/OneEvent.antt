@@ -24,8 +24,8 @@ use Rattle.rules.proofs.RowFormulaLaws.{kept-same}
 use Rattle.rules.proofs.PassedLaws.{InRange, range-order, Passed, passed-gives}
 use Rattle.spans.proofs.CoverLaws.{covered-told}
 use Rattle.monitor.proofs.RisingLaws.{truth-told}
-use Rattle.monitor.specs.declared.record.Record.{Record}
-use Rattle.monitor.specs.Record.{truthAt, spansFound, clockOf, eventTime}
+use Rattle.soundness.specs.declared.record.Record.{Record}
+use Rattle.soundness.specs.Record.{truthAt, spansFound, clockOf, eventTime}
 use Rattle.monitor.specs.Event.{Moment, spansAfter, truthOf, truthsAfter, spansJudged, spansNow, recordAfter, storeAfter}
 use Rattle.monitor.specs.Step.{Setup, Call, timeOf, refusalOf, momentOf, verdictOf, verdict, clockMoved, acceptedReply, stepOf}
 use Rattle.promises.specs.Conditions.{Ready, RecordRight}

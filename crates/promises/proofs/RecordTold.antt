@@ -12,11 +12,11 @@ use Rattle.meaning.proofs.Tells.{Tells, tells-leb, tells-ltb, tells-eqb, tells-
 use Rattle.rules.specs.Limits.{rowLimit}
 use Rattle.rules.specs.Rows.{rowsOf, numbersAt}
 use Rattle.rules.specs.Stretches.{spansOf}
-use Rattle.monitor.specs.declared.record.Record.{Record}
+use Rattle.soundness.specs.declared.record.Record.{Record}
 use Rattle.times.specs.Times.{timeLimit}
-use Rattle.monitor.specs.Record.{wasSeen, truthAt, clockOf, eventTime}
-use Rattle.monitor.specs.Soundness.{soundEntry?, soundRow?, zeroPast?, soundTimes?, sound?}
-use Rattle.monitor.proofs.RecordLaws.{byte-unset}
+use Rattle.soundness.specs.Record.{wasSeen, truthAt, clockOf, eventTime}
+use Rattle.soundness.specs.Soundness.{soundEntry?, soundRow?, zeroPast?, soundTimes?, sound?}
+use Rattle.soundness.proofs.RecordLaws.{byte-unset}
 use Rattle.promises.specs.Conditions.{Ready, StretchRight, RecordRight}
 use Rattle.promises.proofs.Deciding.{tells-and-then, tells-every, tells-flag, set-or, or-unset}
 use Rattle.promises.proofs.StretchTold.{since-or-other, since-spans, other-spans, past-other, row-stretch-told, other-stretch}

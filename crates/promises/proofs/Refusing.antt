@@ -16,10 +16,10 @@ use Rattle.meaning.proofs.Tells.{tells-decided}
 use Rattle.refusals.specs.Refusals.{Refused, refused}
 use Rattle.rules.specs.Table.{CheckReply, passed, refusedBy, checkOf}
 use Rattle.refusals.specs.declared.refusal.Refusal.the-variants.{Earlier, Late, Unsound}
-use Rattle.monitor.specs.declared.record.Record.{Record}
+use Rattle.soundness.specs.declared.record.Record.{Record}
 use Rattle.times.specs.Times.{timeLimit}
-use Rattle.monitor.specs.Record.{nothingSeen, clockOf}
-use Rattle.monitor.specs.Ready.{readyOf}
+use Rattle.soundness.specs.Record.{nothingSeen, clockOf}
+use Rattle.soundness.specs.Ready.{readyOf}
 use Rattle.monitor.specs.Event.{Moment, recordAfter}
 use Rattle.monitor.specs.Start.{begin, startOf}
 use Rattle.monitor.specs.Step.{Setup, Call, timeOf, refusalOf, momentOf, verdictOf, verdict, clockMoved, refusal, acceptedReply, outcomeBy, stepOf, at, notAt, frameTimeOf}

@@ -11,7 +11,7 @@ use Rattle.meaning.specs.Spans.{Span}
 use Rattle.rules.specs.Rows.{rowsOf, numbersAt}
 use Rattle.rules.specs.Stretches.{width, offset}
 use Rattle.spans.specs.Layout.{packed, Laid}
-use Rattle.monitor.specs.Record.{heldAt, stretchAt}
+use Rattle.soundness.specs.Record.{heldAt, stretchAt}
 use Rattle.monitor.specs.Event.{Moment, spansNow, wordsDone, storeWith, recordAfter, storeAfter}
 use Rattle.spans.proofs.LayoutLaws.{length-packed}
 use Rattle.monitor.proofs.EventLaws.{Room, length-done}

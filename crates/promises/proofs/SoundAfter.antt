@@ -16,11 +16,11 @@ use Rattle.rules.specs.Stretches.{needOf}
 use Rattle.rules.specs.declared.numbers.Numbers.{Numbers}
 use Rattle.rules.proofs.PassedLaws.{InRange, range-order}
 use Rattle.times.specs.Times.{timeLimit}
-use Rattle.monitor.specs.Record.{truthAt, spansFound, clockOf, eventTime}
+use Rattle.soundness.specs.Record.{truthAt, spansFound, clockOf, eventTime}
 use Rattle.monitor.specs.Event.{Moment, spansBy, spansAfter, truthsAfter, spansJudged, spansClipped, heartbeatElse, spansNow}
 use Rattle.spans.proofs.LayoutLaws.{laid-read}
 use Rattle.meaning.proofs.SoundKept.{clip-sound, sound-kept}
-use Rattle.monitor.proofs.ReadyLaws.{ready-gives}
+use Rattle.soundness.proofs.ReadyLaws.{ready-gives}
 use Rattle.monitor.proofs.EventLaws.{Room}
 use Rattle.monitor.proofs.AcceptedLaws.{Accepted, now-enough}
 use Rattle.promises.specs.Conditions.{Ready, RowSound, StretchRight, RecordRight}

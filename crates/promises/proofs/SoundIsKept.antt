@@ -17,12 +17,12 @@ use Rattle.spans.specs.Layout.{spansFrom, spansHeld}
 use Rattle.refusals.specs.Refusals.{Refused}
 use Rattle.rules.specs.Rows.{rowsOf, numbersAt}
 use Rattle.rules.specs.Stretches.{spansOf}
-use Rattle.monitor.specs.declared.record.Record.{Record}
+use Rattle.soundness.specs.declared.record.Record.{Record}
 use Rattle.times.specs.Times.{timeLimit}
-use Rattle.monitor.specs.Record.{byteOf, isTrue, wasSeen, truthAt, clockOf, eventTime, stretchAt}
+use Rattle.soundness.specs.Record.{byteOf, isTrue, wasSeen, truthAt, clockOf, eventTime, stretchAt}
 use Rattle.monitor.specs.Event.{Moment, truthOf, truthsAfter, spansNow, countsWith, recordAfter, storeAfter}
 use Rattle.monitor.specs.Step.{Setup, refusalOf, momentOf, outcomeBy, stepOf}
-use Rattle.monitor.proofs.RecordLaws.{byte-small}
+use Rattle.soundness.proofs.RecordLaws.{byte-small}
 use Rattle.monitor.proofs.EventLaws.{Room, length-store}
 use Rattle.monitor.proofs.RisingLaws.{length-truths, truth-set, truth-left, length-counts, count-set, count-left}
 use Rattle.promises.specs.Stream.{accepted?}

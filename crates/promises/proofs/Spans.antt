@@ -16,7 +16,7 @@ use Rattle.rules.specs.Stretches.{needOf}
 use Rattle.rules.specs.RowFormula.{sinceOf, formulaOf}
 use Rattle.rules.specs.declared.stretch.Stretch.{Stretch}
 use Rattle.rules.proofs.PassedLaws.{passed-formula}
-use Rattle.monitor.specs.Record.{truthAt}
+use Rattle.soundness.specs.Record.{truthAt}
 use Rattle.promises.specs.Stream.{State, state, history, clock}
 use Rattle.promises.specs.Verdicts.{Says}
 use Rattle.promises.specs.Spans.{RowRuns, InOrOut, HoldsRuns, SpansAreTheRuns}

@@ -16,10 +16,10 @@ use Rattle.rules.specs.Rows.{rowsOf, numbersAt}
 use Rattle.rules.specs.Stretches.{width, offset, needOf}
 use Rattle.rules.specs.Table.{CheckReply, passed, refusedBy}
 use Rattle.rules.proofs.StretchesLaws.{stretch-before}
-use Rattle.monitor.specs.declared.record.Record.{Record}
-use Rattle.monitor.specs.Record.{stretchAt, clockOf}
-use Rattle.monitor.specs.Soundness.{every, soundRow?, sound?}
-use Rattle.monitor.specs.Ready.{readyOf}
+use Rattle.soundness.specs.declared.record.Record.{Record}
+use Rattle.soundness.specs.Record.{stretchAt, clockOf}
+use Rattle.soundness.specs.Soundness.{every, soundRow?, sound?}
+use Rattle.soundness.specs.Ready.{readyOf}
 use Rattle.monitor.specs.Start.{startOf}
 use Rattle.monitor.specs.Event.{Moment, spansAfter, truthOf, truthsAfter, spansJudged, spansClipped, spansNow, countsWith, wordsDone, recordAfter}
 use Rattle.monitor.specs.Step.{Setup, Call, timeOf, maskOf, refusalOf, momentOf, stepOf}

@@ -18,7 +18,7 @@ use Rattle.rules.specs.Rows.{rowsOf, numbersAt, ruleOf}
 use Rattle.rules.specs.Stretches.{width, offset, needOf}
 use Rattle.rules.proofs.StretchesLaws.{stretch-before}
 use Rattle.spans.specs.Layout.{wordsOf, packed, Laid}
-use Rattle.monitor.specs.Record.{truthAt, heldAt, stretchAt, nothingSeen}
+use Rattle.soundness.specs.Record.{truthAt, heldAt, stretchAt, nothingSeen}
 use Rattle.monitor.specs.Start.{startOf}
 use Rattle.promises.specs.Stream.{State, Starts, started}
 use Rattle.promises.specs.Spans.{KeeperHolds, FeederHolds}

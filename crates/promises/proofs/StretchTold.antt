@@ -23,11 +23,11 @@ use Rattle.rules.specs.declared.numbers.Numbers.{Numbers}
 use Rattle.rules.proofs.KindsLaws.{kinds-pass, past-bare}
 use Rattle.rules.proofs.PassedLaws.{InRange}
 use Rattle.rules.proofs.StretchesLaws.{spans-by-column, stretch-before}
-use Rattle.monitor.specs.declared.record.Record.{Record}
+use Rattle.soundness.specs.declared.record.Record.{Record}
 use Rattle.spans.specs.Layout.{wordsOf, packed}
 use Rattle.times.specs.Times.{timeLimit}
-use Rattle.monitor.specs.Record.{heldAt, stretchAt, clockOf, eventTime}
-use Rattle.monitor.specs.Soundness.{soundLimits?}
+use Rattle.soundness.specs.Record.{heldAt, stretchAt, clockOf, eventTime}
+use Rattle.soundness.specs.Soundness.{soundLimits?}
 use Rattle.spans.proofs.LayoutLaws.{Stored}
 use Rattle.spans.proofs.SoundTold.{sound-stored, stretch-told}
 use Rattle.monitor.proofs.EventLaws.{length-stretch}

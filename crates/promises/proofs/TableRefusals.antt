@@ -17,7 +17,7 @@ use Rattle.rules.specs.Table.{firstFault, passed, refusedBy, checkOf}
 use Rattle.refusals.specs.declared.refusal.Refusal.the-variants.{Length, Row, Limits, Store}
 use Rattle.rules.proofs.TableLaws.{fault-row, fault-limits, fault-none, first-at, whole-rows-told, SoFar, refused-at, passed-at, refused-length}
 use Rattle.rules.specs.declared.numbers.Numbers.{Numbers}
-use Rattle.monitor.specs.Ready.{readyOf}
+use Rattle.soundness.specs.Ready.{readyOf}
 use Rattle.promises.specs.Conditions.{LengthRight, RowRight, LimitsRight, RowsRight, TableRight, Ready}
 use Rattle.promises.specs.Refusing.{TableRefused, one, two, three, StartRefused, table, four}
 use Rattle.promises.proofs.Deciding.{told-true, told-false}

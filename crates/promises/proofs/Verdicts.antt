@@ -9,7 +9,7 @@ use lib.Dec.{T}
 use Rattle.meaning.specs.Formula.{Holds}
 use Rattle.meaning.proofs.NumberedLaws.{numbered-newest}
 use Rattle.rules.specs.Rows.{rowsOf}
-use Rattle.monitor.specs.Record.{truthAt}
+use Rattle.soundness.specs.Record.{truthAt}
 use Rattle.monitor.specs.Step.{Call, verdict}
 use Rattle.promises.specs.Stream.{Starts, eventOf, state, history, clock, outcome, longer}
 use Rattle.promises.specs.Verdicts.{Answered, TruthsAreMeaning, judgedFormula, VerdictIsMeaning}

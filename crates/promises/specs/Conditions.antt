@@ -15,10 +15,10 @@ use Rattle.rules.specs.Limits.{rowNumbers, rowLimit, longest}
 use Rattle.rules.specs.Rows.{rowsOf, numbersAt}
 use Rattle.rules.specs.Stretches.{width, needOf}
 use Rattle.rules.specs.declared.numbers.Numbers.{Numbers}
-use Rattle.monitor.specs.declared.record.Record.{Record}
+use Rattle.soundness.specs.declared.record.Record.{Record}
 use Rattle.spans.specs.Layout.{Laid}
 use Rattle.times.specs.Times.{timeLimit}
-use Rattle.monitor.specs.Record.{wasSeen, truthAt, heldAt, stretchAt, clockOf, eventTime}
+use Rattle.soundness.specs.Record.{wasSeen, truthAt, heldAt, stretchAt, clockOf, eventTime}
 
 -- 1: "table length not a multiple of 5, or rows not 1 to 64" is that this fails.
 pub record LengthRight (table : List ℕ) : Type 0 where

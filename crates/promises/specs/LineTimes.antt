@@ -8,9 +8,9 @@ use lib.Dec.{T}
 use Rattle.meaning.specs.FrameTime.{counterOf, TrueTimes}
 use Rattle.refusals.specs.Refusals.{refused}
 use Rattle.refusals.specs.declared.refusal.Refusal.the-variants.{Earlier}
-use Rattle.monitor.specs.declared.record.Record.{Record}
+use Rattle.soundness.specs.declared.record.Record.{Record}
 use Rattle.times.specs.Times.{timeLimit}
-use Rattle.monitor.specs.Record.{clockOf}
+use Rattle.soundness.specs.Record.{clockOf}
 use Rattle.monitor.specs.Step.{Setup, Call, frame, Reply, refusal, stepOf}
 use Rattle.promises.specs.Stream.{State, call, next, Starts, started, accepted?}
 use Rattle.promises.specs.TextRead.{linesRead, goodLines, framesOf, countersOf}

@@ -15,8 +15,8 @@ use Rattle.rules.specs.Rows.{rowsOf, numbersAt, ruleOf, keptBy, fedBy}
 use Rattle.rules.specs.Stretches.{width}
 use Rattle.rules.specs.declared.stretch.Stretch.{Stretch}
 use Rattle.spans.specs.Layout.{Laid}
-use Rattle.monitor.specs.declared.record.Record.{Record}
-use Rattle.monitor.specs.Record.{truthAt, heldAt, stretchAt, spansFound, clockOf, eventTime}
+use Rattle.soundness.specs.declared.record.Record.{Record}
+use Rattle.soundness.specs.Record.{truthAt, heldAt, stretchAt, spansFound, clockOf, eventTime}
 use Rattle.monitor.specs.Step.{Setup, Call, timeOf, verdict, clockMoved, stepOf}
 use Rattle.promises.specs.SoundIsKept.{Sized}
 use Rattle.promises.specs.Spans.{InOrOut}

@@ -4,7 +4,7 @@
 use mathlib.Core.List.{List}
 use mathlib.Core.Path.{_≡_}
 use Prim.Native.Nat.{ℕ}
-use Rattle.monitor.specs.declared.record.Record.{Record}
+use Rattle.soundness.specs.declared.record.Record.{Record}
 use Rattle.monitor.specs.declared.answer.Judged.{Judged}
 use Rattle.monitor.specs.declared.answer.Started.{Started}
 use Rattle.monitor.specs.Start.{StartGives}

@@ -10,9 +10,9 @@ use Rattle.rules.specs.Rows.{rowsOf, numbersAt}
 use Rattle.rules.specs.Stretches.{needOf}
 use Rattle.rules.specs.Table.{refusedBy, checkOf}
 use Rattle.refusals.specs.declared.refusal.Refusal.the-variants.{Length, Row, Limits, Store, Earlier, Late, Unsound}
-use Rattle.monitor.specs.declared.record.Record.{Record}
+use Rattle.soundness.specs.declared.record.Record.{Record}
 use Rattle.times.specs.Times.{timeLimit}
-use Rattle.monitor.specs.Record.{nothingSeen, clockOf}
+use Rattle.soundness.specs.Record.{nothingSeen, clockOf}
 use Rattle.monitor.specs.Start.{startOf}
 use Rattle.monitor.specs.Step.{Setup, Call, timeOf, refusal, stepOf, notAt, frameTimeOf}
 use Rattle.promises.specs.Conditions.{LengthRight, RowRight, LimitsRight, RowsRight, TableRight, Ready, RecordRight}

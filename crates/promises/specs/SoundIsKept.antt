@@ -5,7 +5,7 @@ use Prim.Native.Nat.{ℕ}
 use lib.Dec.{T}
 use lib.ListN.{length}
 use Rattle.rules.specs.Limits.{rowLimit}
-use Rattle.monitor.specs.declared.record.Record.{Record}
+use Rattle.soundness.specs.declared.record.Record.{Record}
 use Rattle.monitor.specs.Step.{Setup, Call, stepOf}
 use Rattle.promises.specs.Stream.{accepted?}
 use Rattle.promises.specs.Conditions.{RecordRight}

@@ -17,7 +17,7 @@ use Rattle.rules.specs.Stretches.{width}
 use Rattle.rules.specs.RowFormula.{formulaOf}
 use Rattle.rules.specs.declared.stretch.Stretch.{Stretch}
 use Rattle.spans.specs.Layout.{Laid}
-use Rattle.monitor.specs.Record.{truthAt, heldAt, stretchAt, clockOf}
+use Rattle.soundness.specs.Record.{truthAt, heldAt, stretchAt, clockOf}
 use Rattle.monitor.specs.Step.{Call}
 use Rattle.promises.specs.Stream.{State, Starts, state, history, clock}
 

@@ -8,7 +8,7 @@ use Prim.Native.Nat.{ℕ, _≤_}
 use lib.Dec.{leb}
 use Rattle.meaning.specs.History.{Event, History, lastTime}
 use Rattle.meaning.specs.Heartbeat.{Heartbeat, trueEvents}
-use Rattle.monitor.specs.declared.record.Record.{Record}
+use Rattle.soundness.specs.declared.record.Record.{Record}
 use Rattle.times.specs.Times.{timeLimit}
 use Rattle.monitor.specs.Start.{startOf}
 use Rattle.monitor.specs.Step.{setupOf, Call, timeOf, maskOf, Reply, verdict, clockMoved, refusal, Outcome, stepOf}

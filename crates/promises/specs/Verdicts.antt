@@ -15,7 +15,7 @@ use Rattle.rules.specs.Rows.{rowsOf}
 use Rattle.rules.specs.RowFormula.{formulaOf}
 use Rattle.refusals.specs.declared.refusal.Refusal.the-variants.{Earlier, Late}
 use Rattle.times.specs.Times.{timeLimit}
-use Rattle.monitor.specs.Record.{truthAt}
+use Rattle.soundness.specs.Record.{truthAt}
 use Rattle.monitor.specs.Step.{Call, timeOf, verdict, clockMoved, refusal}
 use Rattle.promises.specs.Stream.{Starts, Keeps, Beats, state, history, clock, outcome, longer}
 

@@ -9,11 +9,11 @@ use Rattle.rules.specs.Table.{CheckReply, passed, refusedBy, checkReply,
 use Rattle.rules.specs.declared.table.Checked as Answer
 
 -- The answer of the check that says so.
-abbrev answerOf : CheckReply → Answer.Checked
+abbrev pub answerOf : CheckReply → Answer.Checked
 answerOf (passed rows need) = Answer.the-variants.Passed rows need
 answerOf (refusedBy refusal) = Answer.the-variants.Refused (refusalOf refusal)
 
-answer-back : (r : Answer.Checked) → answerOf (checkReply r) ≡ r
+pub answer-back : (r : Answer.Checked) → answerOf (checkReply r) ≡ r
 answer-back (Answer.the-variants.Passed rows need) = refl
 answer-back (Answer.the-variants.Refused refusal) = ap Answer.the-variants.Refused (refusal-back refusal)
 

@@ -5,6 +5,7 @@ pub mod ClipLaws
 pub mod JoinLaws
 pub mod CoverLaws
 pub mod UpdateLaws
+pub mod ReachedLaws
 pub mod SoundTold
 pub mod SoundSteps
 pub mod StretchKept

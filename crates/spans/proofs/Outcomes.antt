@@ -3,9 +3,13 @@ use mathlib.Core.List.{List}
 use mathlib.Core.Path.{_≡_, sym, _∙_}
 use Prim.Native.Nat.{ℕ}
 use Rattle.meaning.specs.Spans.{Span}
+use Rattle.meaning.proofs.OneValue.{one-said}
 use Rattle.spans.specs.declared.stretch.Held.{Held}
 use Rattle.spans.specs.declared.stretch.Updated.{Updated}
+use Rattle.spans.specs.Layout.{wordOf, endAt}
+use Rattle.spans.specs.Reached.{lastReached}
 use Rattle.spans.specs.Stretch.{UpdatedTo, ClippedTo}
+use Rattle.spans.proofs.LayoutLaws.{word-back}
 
 -- `spans::stretch::update`: the answer, and every word of what was lent.
 pub one-update : (words : List ℕ) (held : Held) (time : ℕ) (S : List Span) (updated updated′ : Updated) (after after′ : List ℕ)
@@ -25,3 +29,7 @@ pub one-clip : (words : List ℕ) (held : Held) (time : ℕ) (left left′ : Hel
 one-clip words held time left left′ after after′ h h′ =
     let same-count : left .count ≡ left′ .count = h .counted ∙ sym (h′ .counted) in
     (λ i. record { count = same-count i }, h .written ∙ sym (h′ .written))
+
+-- `spans::reached::last_reached`: a word is got back from the end that it stands for.
+pub one-last : (time b : ℕ) (p q : ℕ) → endAt p ≡ lastReached time b → endAt q ≡ lastReached time b → p ≡ q
+one-last time b = one-said endAt wordOf word-back

@@ -19,7 +19,7 @@ use Rattle.lines.specs.Frame.{readFrame}
 use Rattle.lines.specs.Rule.{readRule}
 use Rattle.meaning.proofs.Truths.{by-test}
 use Rattle.lines.proofs.WriteLaws.{length-digits}
-use Rattle.monitor.specs.Record.{clockOf}
+use Rattle.soundness.specs.Record.{clockOf}
 use Rattle.monitor.specs.Start.{startOf}
 use Rattle.monitor.specs.Step.{frameOf, Reply}
 use Rattle.monitor.specs.Step as step

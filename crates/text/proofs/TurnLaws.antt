@@ -16,7 +16,7 @@ use Rattle.lines.specs.Digits.{byteAt, overwritten}
 use Rattle.lines.specs.Line.{lineFeed}
 use Rattle.lines.specs.Rule.{readRule}
 use Rattle.lines.specs.Read as read
-use Rattle.monitor.specs.Record.{clockOf}
+use Rattle.soundness.specs.Record.{clockOf}
 use Rattle.monitor.specs.Start.{startOf, StartGives}
 use Rattle.monitor.specs.Step.{said, saidStep, frame}
 use Rattle.monitor.specs.declared.answer.StartAnswer.the-variants as StartAnswer
@@ -31,7 +31,7 @@ use Rattle.text.specs.Transcript.{frameJudged, replyOf}
 use Rattle.text.specs.Turn.{Desk, Turn, desk, rowsRead, runningAt, staged, Turned}
 use Rattle.text.specs.Turn.{ruleTurn, emptyTurn, beforeFrames, frameTurn, turnIn, lineTurn}
 use Rattle.meaning.proofs.Truths.{by-test}
-use Rattle.monitor.proofs.ReadyLaws.{start-need}
+use Rattle.monitor.proofs.StartLaws.{start-need}
 use Rattle.text.proofs.WroteLaws.{wrote-none}
 
 -- What was read is what was found.

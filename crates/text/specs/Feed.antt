@@ -9,7 +9,7 @@ use Rattle.rules.specs.Limits.{rowLimit, rowNumbers}
 use Rattle.refusals.specs.Refusals.{refused, numberOf}
 use Rattle.refusals.specs.declared.refusal.Refusal.the-variants.{Length, BadLine}
 use Rattle.lines.specs.Line.{lineFeed}
-use Rattle.monitor.specs.Record.{nothingSeen}
+use Rattle.soundness.specs.Record.{nothingSeen}
 use Rattle.text.specs.declared.state.Held.{Held}
 use Rattle.text.specs.declared.state.Part.{Part}
 use Rattle.text.specs.declared.state.Part.the-variants.{Rules, Frames, Over}

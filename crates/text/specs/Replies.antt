@@ -7,7 +7,7 @@ use lib.ListN.{length}
 use Rattle.lines.specs.Digits.{byteDigits, digits, overwritten}
 use Rattle.lines.specs.Line.{lineFeed}
 use Rattle.refusals.specs.Refusals.{Refused, rowIn}
-use Rattle.monitor.specs.Record.{byteOf}
+use Rattle.soundness.specs.Record.{byteOf}
 
 -- A line of two numbers, each in so many digits.
 unfoldable pub replyLine : (n first m second : ℕ) → List ℕ

@@ -17,8 +17,8 @@ use Rattle.lines.specs.Read.{LineReply, atEnd, goodLine}
 use Rattle.lines.specs.Read as read
 use Rattle.lines.specs.Frame.{readFrame}
 use Rattle.lines.specs.Rule.{readRule}
-use Rattle.monitor.specs.declared.record.Record.{Record}
-use Rattle.monitor.specs.Record.{clockOf}
+use Rattle.soundness.specs.declared.record.Record.{Record}
+use Rattle.soundness.specs.Record.{clockOf}
 use Rattle.monitor.specs.Start.{Beginning, startOf}
 use Rattle.monitor.specs.Step.{setupOf, Call, frameOf, Reply, verdict, clockMoved, refusal, Outcome, stepOf}
 use Rattle.text.specs.Replies.{needLine, verdictLine, movedLine, refusalLine, refusedLine}

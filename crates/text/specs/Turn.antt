@@ -18,7 +18,7 @@ use Rattle.lines.specs.Read.{LineReply, atEnd, goodLine}
 use Rattle.lines.specs.Read as read
 use Rattle.lines.specs.Frame.{readFrame}
 use Rattle.lines.specs.Rule.{readRule}
-use Rattle.monitor.specs.declared.record.Record.{Record}
+use Rattle.soundness.specs.declared.record.Record.{Record}
 use Rattle.monitor.specs.Start.{Beginning, startOf}
 use Rattle.text.specs.declared.state.Part.{Part}
 use Rattle.text.specs.declared.state.Part.the-variants.{Rules, Frames, Over}

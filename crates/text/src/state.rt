@@ -6,8 +6,8 @@ ghost use Prim.Native.Nat.{min};
 ghost use Rattle.text.specs.Held.{lineLimit, holding, emptied};
 ghost use Rattle.text.specs.Feed.{fresh};
 use lines::rule::LINE_BYTES;
-use monitor::record::Record;
-use monitor::record::nothing_seen;
+use soundness::record::Record;
+use soundness::record::nothing_seen;
 
 // No good line is longer than a rule line with its line feed.
 pub const LINE_LIMIT: usize = LINE_BYTES;

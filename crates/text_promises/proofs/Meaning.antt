@@ -11,7 +11,7 @@ use Rattle.lines.specs.Digits.{byteAt}
 use Rattle.lines.specs.Line.{lineFeed}
 use Rattle.lines.specs.Read.{LineReply, atEnd, goodLine, badLine}
 use Rattle.lines.specs.Frame.{readFrame}
-use Rattle.monitor.specs.Record.{clockOf}
+use Rattle.soundness.specs.Record.{clockOf}
 use Rattle.monitor.specs.Step.{Call, timeOf, frameOf}
 use Rattle.promises.specs.Stream.{Starts, after, state, clock, outcome}
 use Rattle.promises.proofs.StreamLaws.{one-more}

@@ -11,7 +11,7 @@ use Rattle.rules.specs.Stretches.{needOf}
 use Rattle.lines.specs.Read.{LineReply, atEnd, goodLine, badLine}
 use Rattle.lines.specs.Frame.{readFrame}
 use Rattle.lines.specs.Lines.{linesOf}
-use Rattle.monitor.specs.Record.{clockOf}
+use Rattle.soundness.specs.Record.{clockOf}
 use Rattle.monitor.specs.Step as step
 use Rattle.monitor.specs.Step.{frameOf, Reply}
 use Rattle.promises.specs.Stream.{State, call, next, after, Starts, started}

@@ -16,9 +16,9 @@ use Rattle.meaning.specs.Spans.{clip, join, update}
 use Rattle.spans.specs.Layout.{endAt, spansFrom, wordsOf, packed, zeros?}
 use Rattle.spans.specs.Stretch.{covered}
 use Rattle.spans.specs.StretchSound.{soundSpan?, soundFrom?, soundEndless?, soundSpans?, soundStretch?}
-use Rattle.monitor.specs.Record.{stretchAt, nothingSeen}
-use Rattle.monitor.specs.Soundness.{every, soundRow?, zeroPast?, sound?}
-use Rattle.monitor.specs.Ready.{readyOf}
+use Rattle.soundness.specs.Record.{stretchAt, nothingSeen}
+use Rattle.soundness.specs.Soundness.{every, soundRow?, zeroPast?, sound?}
+use Rattle.soundness.specs.Ready.{readyOf}
 use Rattle.monitor.specs.Start.{startOf}
 use Rattle.monitor.specs.Event.{spansAfter, truthOf, truthsAfter, countsWith, wordsDone, storeWith, recordAfter}
 use Rattle.monitor.specs.Step.{refusalOf, stepOf}

@@ -6,7 +6,7 @@ use Prim.Native.Nat.{ℕ}
 use lib.ListN.{length}
 use Rattle.rules.specs.Stretches.{needOf}
 use Rattle.lines.specs.Lines.{linesOf}
-use Rattle.monitor.specs.Record.{clockOf}
+use Rattle.soundness.specs.Record.{clockOf}
 use Rattle.monitor.specs.Step.{setupOf, verdict, clockMoved, refusal}
 use Rattle.promises.specs.Stream.{State, Starts, started}
 use Rattle.promises.specs.LeftOut.{Machine, answers, others, otherAnswers, Unchanged}

@@ -43,9 +43,9 @@ use denote.Triple.Spec.{Meets, tripleOf}
 use denote.Triple.Table.{entered, cited}
 use denote.Triple.Walked.{says, Stays, stay-none-slice, gave-slice, stay-ref, walkOf, goes-none-slice, goes-gave-slice, goes-ref, Walks, ends-at, walked, walk-meets}
 use denote.Triple.Clauses.{ensured, lasts}
-use Rattle.monitor.specs.declared.record.Record.{Record}
-use Rattle.monitor.proofs.record.Record as T
-use Rattle.monitor.proofs.record.Record.Laws as T′
+use Rattle.soundness.specs.declared.record.Record.{Record}
+use Rattle.soundness.proofs.record.Record as T
+use Rattle.soundness.proofs.record.Record.Laws as T′
 use Rattle.board.specs.declared.code.Coded.{Coded}
 use Rattle.board.specs.Left.{StartLeaves}
 use Rattle.board.proofs.code.Coded as J

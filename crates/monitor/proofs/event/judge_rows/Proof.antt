@@ -9,7 +9,7 @@ use borrow.Author.Needs.{needs}
 use Rattle.rules.specs.Limits.{rowLimit}
 use Rattle.rules.specs.Rows.{rowsOf}
 use Rattle.rules.specs.Stretches.{offset}
-use Rattle.monitor.specs.declared.record.Record.{Record}
+use Rattle.soundness.specs.declared.record.Record.{Record}
 use Rattle.monitor.specs.Event.{truthsAfter, countsWith, wordsDone, storeWith}
 use Rattle.monitor.specs.Step.{setupOf, event}
 use Rattle.monitor.specs.Core.{recordMet, momentMet, AfterRows}

@@ -9,7 +9,8 @@ use borrow.Author.Needs.{needs}
 use Rattle.rules.specs.Limits.{rowLimit}
 use Rattle.rules.specs.Stretches.{offset}
 use Rattle.monitor.specs.Event.{spansClipped, countsWith, wordsDone, storeWith}
-use Rattle.monitor.specs.Core.{heldOf, ClipReady, SpansLeft}
+use Rattle.monitor.specs.Core.{ClipReady, SpansLeft}
+use Rattle.soundness.specs.Record.{heldOf}
 use Rattle.monitor.proofs.ClippingLaws.{length-clipped, clip-ready, clip-turn, clip-next}
 use Rattle.monitor.proofs.heartbeat.clip_rows.Statement.{statement}
 use Rattle.monitor.proofs.heartbeat.clip_rows.Tie as tie

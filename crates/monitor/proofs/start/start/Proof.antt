@@ -8,7 +8,7 @@ use borrow.Rule.Slice.PartMut.{mid-len, post-is}
 use lib.ListN.{length}
 use Rattle.rules.specs.Table.{checkReply}
 use Rattle.monitor.specs.Start.{startOf}
-use Rattle.monitor.proofs.ReadyLaws.{ready-room}
+use Rattle.soundness.proofs.ReadyLaws.{ready-room}
 use Rattle.monitor.proofs.start.start.Statement.{statement}
 use Rattle.monitor.proofs.start.start.Tie as tie
 

@@ -3,9 +3,9 @@ use mathlib.Core.Path.{_≡_, sym, ap, _∙_}
 use denote.Ref.{now}
 use borrow.Author.Needs.{needs}
 use Rattle.rules.specs.Table.{checkReply}
-use Rattle.monitor.specs.declared.record.Record.{Record}
+use Rattle.soundness.specs.declared.record.Record.{Record}
 use Rattle.monitor.specs.Core.{recordMet}
-use Rattle.monitor.proofs.SoundnessLaws.{sound-parts}
+use Rattle.soundness.proofs.SoundnessLaws.{sound-parts}
 use Rattle.monitor.proofs.StepLaws.{left-refused, fit-refused, Fit, fit-gives}
 use Rattle.monitor.proofs.step.judge.Statement.{statement}
 use Rattle.monitor.proofs.step.judge.Tie as tie

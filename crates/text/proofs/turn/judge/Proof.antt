@@ -1,7 +1,7 @@
 -- `text::turn::judge` meets its contract: the monitor's answer decides. Assumes nothing.
 use native.Mathlib.Nat.{sub-zero}
 use borrow.Author.Needs.{needs}
-use Rattle.monitor.proofs.RecordLaws.{byte-told}
+use Rattle.soundness.proofs.RecordLaws.{byte-told}
 use Rattle.text.proofs.TurnLaws.{frame-told}
 use Rattle.text.proofs.turn.judge.Statement.{statement}
 use Rattle.text.proofs.turn.judge.Tie as tie
