@@ -2,7 +2,7 @@
 use mathlib.Core.Bool.{Bool, true, false, cond}
 use mathlib.Core.List.{List}
 use mathlib.Core.Option.{Option, none, some}
-use mathlib.Core.Path.{_≡_, refl, sym, ap}
+use mathlib.Core.Path.{_≡_, refl, sym}
 use Prim.Native.Nat.{ℕ, _-_, _≤_, _<_}
 use native.Mathlib.Omega.{arith}
 use lib.Dec.{leb}
@@ -17,25 +17,26 @@ use Rattle.refusals.specs.declared.refusal.Refusal.{Refusal}
 use Rattle.refusals.specs.declared.refusal.Refusal.the-variants.{Earlier, Late, Unsound}
 use Rattle.soundness.specs.declared.record.Record.{Record}
 use Rattle.monitor.specs.declared.event.Arrival.{Arrival}
-use Rattle.monitor.specs.declared.answer.Answer.{Answer}
 use Rattle.monitor.specs.declared.answer.Answer.the-variants as Answer
+use Rattle.monitor.specs.declared.step.Told.{Told}
 use Rattle.times.specs.Times.{timeLimit}
-use Rattle.soundness.specs.Record.{truthAt, clockOf, eventTime}
+use Rattle.soundness.specs.Record.{byteOf, recordOf, truthAt, clockOf, eventTime}
 use Rattle.soundness.specs.Soundness.{sound?}
 use Rattle.soundness.specs.Ready.{readyOf, refusalIn}
-use Rattle.monitor.specs.Step.{Setup, setupOf, Call, event, frame, timeOf, unless, refusalOf, momentOf, Reply, verdict, clockMoved, refusal, Outcome, outcomeBy, stepOf, said}
+use Rattle.monitor.specs.Step.{Setup, setupOf, Call, event, frame, timeOf, unless, refusalOf, momentOf, Outcome, outcomeBy, stepOf, said}
 use Rattle.monitor.specs.Event.{Moment, spansClipped, recordAfter}
-use Rattle.monitor.specs.Core.{moment, SpansLeft, AfterRows, LeftIn, recordLeft}
+use Rattle.monitor.specs.Core.{moment, recordMet, SpansLeft, AfterRows, LeftIn, refusedTold}
 use Rattle.soundness.specs.Fit.{withSound, fitOf}
 use Rattle.soundness.proofs.ReadyLaws.{ready-gives}
 use Rattle.soundness.proofs.SoundnessLaws.{sound-parts}
 
--- A refused call leaves the arrays and the store as they were.
-pub left-refused : (setup : Setup) (store : List ℕ) (found : Record) (call : Call) (fault : Refusal)
-    → refusalOf setup store found call ≡ some (refused fault)
-    → LeftIn (stepOf setup store found call) (Answer.Refused fault) (found .truths) (found .counts) store
+-- A refused call leaves the times, the arrays and the store as they were.
+pub left-refused : (setup : Setup) (store : List ℕ) (e : Arrival) (rows : ℕ) (truths counts : List ℕ) (call : Call) (fault : Refusal)
+    → refusalOf setup store (recordMet e rows truths counts) call ≡ some (refused fault)
+    → LeftIn (stepOf setup store (recordMet e rows truths counts) call) (refusedTold fault e) truths counts store
 unfolding stepOf
-left-refused setup store found call fault h = record { replied = rw h; truths-are = rw h; counts-are = rw h; store-is = rw h }
+left-refused setup store e rows truths counts call fault h =
+    record { replied = rw h; seen-is = rw h; clock-is = rw h; last-is = rw h; truths-are = rw h; counts-are = rw h; store-is = rw h }
 
 -- 1 to 4 and 7.
 fit-refused-by : (sound : Bool) (ready : CheckReply) (rest : Option Refused) (fault : Refused) → refusedBy fault ≡ withSound sound ready
@@ -130,11 +131,18 @@ pub left-accepted : (table store : List ℕ) (found : Record) (time mask rows : 
     → rows ≡ rowsOf table
     → heartbeat? mask ≡ false
     → AfterRows (moment table store found time mask) rows truths counts after
-    → LeftIn (stepOf (setupOf table) store found (event time mask)) (Answer.Verdict (truthAt truths (rows - 1))) truths counts after
+    → LeftIn (stepOf (setupOf table) store found (event time mask))
+    (record { answer = Answer.Verdict (truthAt truths (rows - 1)); seen = byteOf true; clock = time; last = time })
+    truths
+    counts
+    after
 unfolding stepOf recordAfter
 left-accepted table store found time mask rows truths counts after h counted no-beat done =
     record {
       replied = rw (h, no-beat, done .truths-are, counted);
+      seen-is = rw (h, no-beat);
+      clock-is = rw h;
+      last-is = rw (h, no-beat);
       truths-are = rw (h, no-beat, done .truths-are, counted);
       counts-are = rw (h, no-beat, done .left .counts-are, counted);
       store-is = rw (h, no-beat, done .left .store-is, counted);
@@ -146,65 +154,43 @@ pub left-moved : (table store : List ℕ) (found : Record) (time mask rows : ℕ
     → rows ≡ rowsOf table
     → heartbeat? mask ≡ true
     → SpansLeft table store (found .counts) (spansClipped table store (found .counts) time) rows counts after
-    → LeftIn (stepOf (setupOf table) store found (event time mask)) Answer.ClockMoved (found .truths) counts after
+    → LeftIn (stepOf (setupOf table) store found (event time mask))
+    (record { answer = Answer.ClockMoved; seen = found .seen; clock = time; last = eventTime found })
+    (found .truths)
+    counts
+    after
 unfolding stepOf recordAfter
 left-moved table store found time mask rows counts after h counted beat done =
     record {
       replied = rw (h, beat);
+      seen-is = rw (h, beat);
+      clock-is = rw h;
+      last-is = rw (h, beat);
       truths-are = rw (h, beat);
       counts-are = rw (h, beat, done .counts-are, counted);
       store-is = rw (h, beat, done .store-is, counted);
     }
 
--- The record that is given beside the answer is the outcome's. No two of the three cases of a reply are one.
-replyNumber : Reply → ℕ
-replyNumber (verdict holds) = 0
-replyNumber clockMoved = 1
-replyNumber (refusal fault) = 2
+-- No call changes the row count, so the record put together of these parts is the outcome's.
+rows-stay : (setup : Setup) (store : List ℕ) (found : Record) (call : Call) → found .rows ≡ stepOf setup store found call .left .rows
+unfolding stepOf recordAfter
+rows-stay setup store found call = go (refusalOf setup store found call)
+  where
+    go : (o : Option Refused) → found .rows ≡ outcomeBy setup store found (momentOf setup store found call) o .left .rows
+    go none = refl
+    go (some fault) = refl
 
-clash : {A : Type 0} {reply other : Reply} → ¬ (replyNumber reply ≡ replyNumber other) → reply ≡ other → A
-clash differ same = absurd (differ (ap replyNumber same))
+abbrev together : Told → (rows : ℕ) (truths counts after : List ℕ) → Outcome
+together told rows truths counts after =
+    record { reply = said (told .answer); left = recordOf (told .seen) (told .clock) (told .last) rows truths counts; store = after }
 
-module _ (setup : Setup) (store : List ℕ) (found : Record) (time mask : ℕ) where
-  abbrev arrived : Arrival
-  arrived = record { time = time; mask = mask; clock = clockOf found; seen = found .seen; last = eventTime found }
+put-together : (o : Outcome) (told : Told) (rows : ℕ) (truths counts after : List ℕ) → LeftIn o told truths counts after → rows ≡ o .left .rows
+    → together told rows truths counts after ≡ o
+put-together o told rows truths counts after left rows-are =
+    rw (left .replied, left .seen-is, left .clock-is, left .last-is, rows-are, left .truths-are, left .counts-are, left .store-is)
 
-  abbrev met : Moment
-  met = momentOf setup store found (event time mask)
-
-  module _ (truths counts after : List ℕ) where
-    abbrev given : Answer → Outcome
-    given answer = record { reply = said answer; left = recordLeft answer arrived (found .rows) truths counts; store = after }
-
-    -- By what is answered: an event's or a heartbeat's mask, then a refusal.
-    accepted-by : (beat : Bool) → heartbeat? mask ≡ beat → (answer : Answer)
-        → LeftIn (outcomeBy setup store found met none) answer truths counts after
-        → given answer ≡ outcomeBy setup store found met none
-    unfolding recordAfter replyNumber
-    accepted-by false told (Answer.Verdict holds) left =
-        rw told
-        (rw (rw told at (left .replied), rw told at (left .truths-are), rw told at (left .counts-are), rw told at (left .store-is)))
-    accepted-by false told Answer.ClockMoved left = clash (λ same. omega arith) (rw told at (left .replied))
-    accepted-by false told (Answer.Refused fault) left = clash (λ same. omega arith) (rw told at (left .replied))
-    accepted-by true told (Answer.Verdict holds) left = clash (λ same. omega arith) (rw told at (left .replied))
-    accepted-by true told Answer.ClockMoved left =
-        rw told (rw (rw told at (left .truths-are), rw told at (left .counts-are), rw told at (left .store-is)))
-    accepted-by true told (Answer.Refused fault) left = clash (λ same. omega arith) (rw told at (left .replied))
-
-    refused-by : (fault : Refused) (answer : Answer)
-        → LeftIn (outcomeBy setup store found met (some fault)) answer truths counts after
-        → given answer ≡ outcomeBy setup store found met (some fault)
-    unfolding replyNumber
-    refused-by fault (Answer.Verdict holds) left = clash (λ same. omega arith) (left .replied)
-    refused-by fault Answer.ClockMoved left = clash (λ same. omega arith) (left .replied)
-    refused-by fault (Answer.Refused other) left = rw (left .replied, left .truths-are, left .counts-are, left .store-is)
-
-    given-by : (o : Option Refused) (answer : Answer) → LeftIn (outcomeBy setup store found met o) answer truths counts after
-        → given answer ≡ outcomeBy setup store found met o
-    given-by none answer left = accepted-by (heartbeat? mask) refl answer left
-    given-by (some fault) answer left = refused-by fault answer left
-
-    pub step-given : (answer : Answer) → LeftIn (stepOf setup store found (event time mask)) answer truths counts after
-        → given answer ≡ stepOf setup store found (event time mask)
-    unfolding stepOf
-    step-given answer left = given-by (refusalOf setup store found (event time mask)) answer left
+pub step-given : (setup : Setup) (store : List ℕ) (found : Record) (call : Call) (told : Told) (truths counts after : List ℕ)
+    → LeftIn (stepOf setup store found call) told truths counts after
+    → together told (found .rows) truths counts after ≡ stepOf setup store found call
+step-given setup store found call told truths counts after left =
+    put-together (stepOf setup store found call) told (found .rows) truths counts after left (rows-stay setup store found call)

@@ -1,5 +1,5 @@
 -- What the private functions of src/event, src/heartbeat and src/step ask and leave. No public contract cites this file.
-use mathlib.Core.Bool.{Bool, true}
+use mathlib.Core.Bool.{Bool}
 use mathlib.Core.List.{List, _++_}
 use mathlib.Core.Option.{none}
 use mathlib.Core.Path.{_≡_}
@@ -15,12 +15,13 @@ use Rattle.spans.specs.declared.stretch.Updated.{Updated}
 use Rattle.spans.specs.Layout.{spanWords, packed, spansHeld, Packed}
 use Rattle.spans.specs.Stretch.{covered}
 use Rattle.soundness.specs.declared.record.Record.{Record}
-use Rattle.monitor.specs.declared.answer.Answer.{Answer}
+use Rattle.refusals.specs.declared.refusal.Refusal.{Refusal}
 use Rattle.monitor.specs.declared.answer.Answer.the-variants as Answer
 use Rattle.monitor.specs.declared.event.Arrival.{Arrival}
 use Rattle.monitor.specs.declared.event.Judgement.{Judgement}
+use Rattle.monitor.specs.declared.step.Told.{Told}
 use Rattle.times.specs.Times.{timeLimit}
-use Rattle.soundness.specs.Record.{byteOf, heldIn, stretchAt, recordOf}
+use Rattle.soundness.specs.Record.{heldIn, stretchAt, recordOf}
 use Rattle.monitor.specs.Event.{Moment, spansBy, truthBy, truthsAfter, spansJudged, countsWith, storeWith}
 use Rattle.monitor.specs.Step.{setupOf, event, refusalOf, Outcome, stepOf, said}
 
@@ -118,15 +119,16 @@ pub record RowJudged (store : List ℕ) (from : ℕ) (n : Numbers) (held : Held)
   pub end : judged .end ≡ from + width n
   pub written : after ≡ withStretch from (from + width n) store (packed (width n) (spansAfterIn store from n held e truths))
 
--- After a call on lent arrays: the answer, and what stands in the arrays and in the store, are the outcome's.
-pub record LeftIn (o : Outcome) (answer : Answer) (truths counts store : List ℕ) : Type 0 where
-  pub replied : said answer ≡ o .reply
+-- After a call on lent arrays: the answer, the times beside it, and what stands in the arrays and in the store, are the outcome's.
+pub record LeftIn (o : Outcome) (told : Told) (truths counts store : List ℕ) : Type 0 where
+  pub replied : said (told .answer) ≡ o .reply
+  pub seen-is : told .seen ≡ o .left .seen
+  pub clock-is : told .clock ≡ o .left .clock
+  pub last-is : told .last ≡ o .left .last
   pub truths-are : truths ≡ o .left .truths
   pub counts-are : counts ≡ o .left .counts
   pub store-is : store ≡ o .store
 
--- The record that is given beside an answer.
-abbrev pub recordLeft : Answer → Arrival → (rows : ℕ) (truths counts : List ℕ) → Record
-recordLeft (Answer.Verdict holds) e rows truths counts = recordOf (byteOf true) (e .time) (e .time) rows truths counts
-recordLeft Answer.ClockMoved e rows truths counts = recordOf (e .seen) (e .time) (e .last) rows truths counts
-recordLeft (Answer.Refused fault) e rows truths counts = recordOf (e .seen) (e .clock) (e .last) rows truths counts
+-- What is told of a refused call: the times found.
+abbrev pub refusedTold : Refusal → Arrival → Told
+refusedTold fault e = record { answer = Answer.Refused fault; seen = e .seen; clock = e .clock; last = e .last }

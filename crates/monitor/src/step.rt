@@ -20,8 +20,7 @@ ghost use mathlib.Core.Path.{_≡_};
 ghost use lib.ListN.{length};
 ghost use Rattle.meaning.specs.Heartbeat.{heartbeat?};
 ghost use Rattle.rules.specs.Rows.{rowsOf};
-ghost use Rattle.monitor.specs.Core.{recordMet, outcomeMet, Unrefused, LeftIn, recordLeft};
-ghost use Rattle.soundness.specs.Record.{recordOf};
+ghost use Rattle.monitor.specs.Core.{recordMet, outcomeMet, Unrefused, LeftIn, refusedTold};
 ghost use Rattle.soundness.specs.Soundness.{sound?};
 ghost use Rattle.soundness.specs.Ready.{readyOf, refusalIn};
 ghost use Rattle.monitor.specs.Step.{setupOf, event, frame, StepGives};
@@ -40,8 +39,19 @@ pub fn event(table: &[u32], store: &mut [u64], found: Record, time: u64, mask: u
     let mut truths = found.truths;
     let mut counts = found.counts;
     let rows = found.rows;
-    let answer = judge(table, store, arrival, rows, &mut truths, &mut counts);
-    give(answer, arrival, rows, truths, counts)
+    let told = judge(table, store, arrival, rows, &mut truths, &mut counts);
+    let answer = told.answer;
+    Judged {
+        answer,
+        record: Record {
+            seen: told.seen,
+            clock: told.clock,
+            last: told.last,
+            rows,
+            truths,
+            counts,
+        },
+    }
 }
 
 // The same for a frame, at the time that its counter shows. A refused frame does not move the time. It does not call `event`: that would copy the record
@@ -60,8 +70,27 @@ pub fn frame(table: &[u32], store: &mut [u64], found: Record, counter: u16, mask
     let mut truths = found.truths;
     let mut counts = found.counts;
     let rows = found.rows;
-    let answer = judge(table, store, arrival, rows, &mut truths, &mut counts);
-    give(answer, arrival, rows, truths, counts)
+    let told = judge(table, store, arrival, rows, &mut truths, &mut counts);
+    let answer = told.answer;
+    Judged {
+        answer,
+        record: Record {
+            seen: told.seen,
+            clock: told.clock,
+            last: told.last,
+            rows,
+            truths,
+            counts,
+        },
+    }
+}
+
+// The answer, and what the record says of the times after it.
+pub(crate) struct Told {
+    pub(crate) answer: Answer,
+    pub(crate) seen: u8,
+    pub(crate) clock: u64,
+    pub(crate) last: u64,
 }
 
 // Refusals 1 to 4 and 7, then what a sound record is answered.
@@ -72,7 +101,7 @@ fn judge(
     count: u32,
     truths: &mut [u8; ROW_LIMIT],
     counts: &mut [u32; ROW_LIMIT],
-) -> Answer
+) -> Told
     ensures { λ r. ⌜ LeftIn (outcomeMet (now (table .entry)) (now (store .entry)) arrival count (now (truths .entry)) (now (counts .entry)))
         r (now (truths .exit)) (now (counts .exit)) (now (store .exit)) ⌝ }
 {
@@ -87,7 +116,7 @@ fn judge(
         counts,
     );
     match checked {
-        Checked::Refused(refusal) => Answer::Refused(refusal),
+        Checked::Refused(refusal) => refused(refusal, arrival),
         Checked::Passed { rows, need: _ } => judge_sound(
             table,
             store,
@@ -107,21 +136,26 @@ fn judge_sound(
     arrival: Arrival,
     truths: &mut [u8; ROW_LIMIT],
     counts: &mut [u32; ROW_LIMIT],
-) -> Answer
+) -> Told
     requires { ⌜ (refusalIn (readyOf (now table) (length (now store))) ≡ none) × (rows ≡ rowsOf (now table)) ⌝ }
     requires { ⌜ sound? (now table) (now store) (recordMet arrival rows (now truths) (now counts)) ≡ true ⌝ }
     ensures { λ r. ⌜ LeftIn (outcomeMet (now (table .entry)) (now (store .entry)) arrival rows (now (truths .entry)) (now (counts .entry)))
         r (now (truths .exit)) (now (counts .exit)) (now (store .exit)) ⌝ }
 {
     if TIME_LIMIT < arrival.time {
-        return Answer::Refused(Refusal::Late);
+        return refused(Refusal::Late, arrival);
     }
     if arrival.time < arrival.clock {
-        return Answer::Refused(Refusal::Earlier);
+        return refused(Refusal::Earlier, arrival);
     }
     if is_heartbeat(arrival.mask) {
         clip_rows(table, store, rows, arrival.time, counts);
-        return Answer::ClockMoved;
+        return Told {
+            answer: Answer::ClockMoved,
+            seen: arrival.seen,
+            clock: arrival.time,
+            last: arrival.last,
+        };
     }
     accept(table, store, rows, arrival, truths, counts)
 }
@@ -134,7 +168,7 @@ fn accept(
     arrival: Arrival,
     truths: &mut [u8; ROW_LIMIT],
     counts: &mut [u32; ROW_LIMIT],
-) -> Answer
+) -> Told
     requires { ⌜ Unrefused (now table) (now store) arrival rows (now truths) (now counts) ⌝ }
     requires { ⌜ (rows ≡ rowsOf (now table)) × (heartbeat? (arrival .mask) ≡ false) ⌝ }
     ensures { λ r. ⌜ LeftIn (outcomeMet (now (table .entry)) (now (store .entry)) arrival rows (now (truths .entry)) (now (counts .entry)))
@@ -142,57 +176,22 @@ fn accept(
 {
     let found = *truths;
     judge_rows(table, store, rows, arrival, &found, truths, counts);
-    Answer::Verdict(truths[rows - 1] == 1)
-}
-
-// The answer with its record. A refused call leaves the truths and the counts, and so gives back the record given.
-fn give(
-    answer: Answer,
-    arrival: Arrival,
-    rows: u32,
-    truths: [u8; ROW_LIMIT],
-    counts: [u32; ROW_LIMIT],
-) -> Judged
-    ensures { λ r. ⌜ (r .answer ≡ answer) × (r .record ≡ recordLeft answer arrival rows truths counts) ⌝ }
-{
-    match answer {
-        Answer::Refused(refusal) => Judged {
-            answer: Answer::Refused(refusal),
-            record: record_of(
-                Times(arrival.seen, arrival.clock, arrival.last),
-                rows,
-                truths,
-                counts,
-            ),
-        },
-        Answer::Verdict(holds) => Judged {
-            answer: Answer::Verdict(holds),
-            record: record_of(Times(1, arrival.time, arrival.time), rows, truths, counts),
-        },
-        Answer::ClockMoved => Judged {
-            answer: Answer::ClockMoved,
-            record: record_of(
-                Times(arrival.seen, arrival.time, arrival.last),
-                rows,
-                truths,
-                counts,
-            ),
-        },
+    Told {
+        answer: Answer::Verdict(truths[rows - 1] == 1),
+        seen: 1,
+        clock: arrival.time,
+        last: arrival.time,
     }
 }
 
-// Whether an event was seen, the clock, and the last event's time.
-struct Times(u8, u64, u64);
-
-fn record_of(times: Times, rows: u32, truths: [u8; ROW_LIMIT], counts: [u32; ROW_LIMIT]) -> Record
-    ensures { λ r. ⌜ r ≡ recordOf (times .0) (times .1) (times .2) rows truths counts ⌝ }
+// A refused call leaves the truths and the counts, and the times found.
+fn refused(fault: Refusal, arrival: Arrival) -> Told
+    ensures { λ r. ⌜ r ≡ refusedTold fault arrival ⌝ }
 {
-    Record {
-        seen: times.0,
-        clock: times.1,
-        last: times.2,
-        rows,
-        truths,
-        counts,
+    Told {
+        answer: Answer::Refused(fault),
+        seen: arrival.seen,
+        clock: arrival.clock,
+        last: arrival.last,
     }
 }

@@ -16,6 +16,9 @@ fit-requires c κs = search needs
 enum-known-checked : tie.Need-enum-known-checked
 enum-known-checked c = search needs
 
+refused-requires : tie.Need-refused-requires
+refused-requires c κs = search needs
+
 enum-known-checked-2 : tie.Need-enum-known-checked-2
 enum-known-checked-2 c = search needs
 
@@ -46,7 +49,10 @@ same-length c = search needs
 
 returns : tie.Need-returns
 returns c =
-    left-refused _ _ _ _ _ (fit-refused _ _ _ _ _ (sym (ap checkReply (c .before .checked .given .1)) ∙ c .before .before .before .fit .ensures))
+    let met = c .before .before in
+    rw (c .refused .ensures)
+    (left-refused _ _ (met .before .before .before .before .before .before .before .before .args .arrival) _ _ _ _ _
+    (fit-refused _ _ _ _ _ (sym (ap checkReply (met .checked .given .1)) ∙ met .before .before .fit .ensures)))
 
 same-length-2 : tie.Need-same-length-2
 same-length-2 c = search needs
@@ -62,6 +68,7 @@ judge-spec =
     (tie.spec
     fit-requires
     enum-known-checked
+    refused-requires
     enum-known-checked-2
     cast-judge-sound
     judge-sound-requires

@@ -9,16 +9,23 @@ use Rattle.monitor.proofs.StepLaws.{left-refused, late, earlier, unrefu
 use Rattle.monitor.proofs.step.judge_sound.Statement.{statement}
 use Rattle.monitor.proofs.step.judge_sound.Tie as tie
 
+refused-requires : tie.Need-refused-requires
+refused-requires c κs = search needs
+
 returns : tie.Need-returns
 returns c =
-    let start = c .before .before .before .before in
-    left-refused _ _ _ _ _ (late _ _ _ _ (start .pre .0 .0) (start .pre .1) (c .if1 .taken))
+    let start = c .before .before .before .before .before in
+    rw (c .refused .ensures) (left-refused _ _ (start .args .arrival) _ _ _ _ _ (late _ _ _ _ (start .pre .0 .0) (start .pre .1) (c .before .if1 .taken)))
+
+refused-requires-2 : tie.Need-refused-requires-2
+refused-requires-2 c κs = search needs
 
 returns-2 : tie.Need-returns-2
 returns-2 c =
-    let d = c .before .before in
+    let d = c .before .before .before in
     let start = d .before .before .before .before in
-    left-refused _ _ _ _ _ (earlier _ _ _ _ (start .pre .0 .0) (start .pre .1) (d .if1 .left) (c .if2 .taken))
+    rw (c .refused2 .ensures)
+    (left-refused _ _ (start .args .arrival) _ _ _ _ _ (earlier _ _ _ _ (start .pre .0 .0) (start .pre .1) (d .if1 .left) (c .before .if2 .taken)))
 
 -- Nothing refuses the call from here on.
 module _ (c : tie.Else2) where
@@ -68,7 +75,9 @@ pub judge-sound-spec : {M : Type 1} → statement M
 judge-sound-spec =
     tie.close
     (tie.spec
+    refused-requires
     returns
+    refused-requires-2
     returns-2
     is-heartbeat-requires
     clip-rows-requires
