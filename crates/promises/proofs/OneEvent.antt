@@ -1,5 +1,5 @@
--- One event, and one heartbeat, from any sound record, as sets. The spans found are sound, so they rise and leave room at their end, and the laws of an update give its
--- members; the truths of the lower rows, which it goes by, are those that the call leaves.
+-- One event, and one heartbeat, from any sound record, as sets. The spans found are sound, so they rise and leave room at their end, and the laws of an
+-- update give its members; the truths of the lower rows, which it goes by, are those that the call leaves.
 use mathlib.Core.Bool.{Bool, true, false, cond, not}
 use mathlib.Core.List.{List}
 use mathlib.Core.Logic.{_↔_}

@@ -1,7 +1,7 @@
--- One event, and one heartbeat, from any sound record, as sets. "a since row's spans are clipped at t and ended ones dropped, then all dropped if x is now false, then t+a
--- to t+b is joined in if y is true"; "An unreached but sound record, or another table that passes, is answered by the same one-event rules from the
--- spans and truths found." For every setup, store and record, and every call that is accepted with them: the record is then sound, whether or not a
--- stream reaches it. Of a heartbeat "spans are clipped at its time, truths stay those of the last true event" (document 02, E2).
+-- One event, and one heartbeat, from any sound record, as sets. "a since row's spans are clipped at t and ended ones dropped, then all dropped if x is now
+-- false, then t+a to t+b is joined in if y is true"; "An unreached but sound record, or another table that passes, is answered by the same one-event rules
+-- from the spans and truths found." For every setup, store and record, and every call that is accepted with them: the record is then sound, whether or not
+-- a stream reaches it. Of a heartbeat "spans are clipped at its time, truths stay those of the last true event" (document 02, E2).
 use mathlib.Core.Bool.{Bool, true, not}
 use mathlib.Core.List.{List}
 use mathlib.Core.Logic.{_↔_, _⊎_}

@@ -1,5 +1,5 @@
-// The one list of refusals (document 01, "Refusal numbers", as document 02 amends it). Every enum that refuses holds one of these; what leaves as plain numbers is made by
-// `number` and `row`, and only this file takes a refusal apart.
+// The one list of refusals (document 01, "Refusal numbers", as document 02 amends it). Every enum that refuses holds one of these; what leaves as plain
+// numbers is made by `number` and `row`, and only this file takes a refusal apart.
 
 ghost use mathlib.Core.Path.{_≡_};
 ghost use Rattle.refusals.specs.Refusals.{numberOf, rowOf};
