@@ -21,6 +21,7 @@ ghost use lib.ListN.{length};
 ghost use Rattle.meaning.specs.Heartbeat.{heartbeat?};
 ghost use Rattle.rules.specs.Rows.{rowsOf};
 ghost use Rattle.monitor.specs.Core.{recordMet, outcomeMet, Unrefused, LeftIn, refusedTold};
+ghost use Rattle.soundness.specs.Record.{recordOf};
 ghost use Rattle.soundness.specs.Soundness.{sound?};
 ghost use Rattle.soundness.specs.Ready.{readyOf, refusalIn};
 ghost use Rattle.monitor.specs.Step.{setupOf, event, frame, StepGives};
@@ -40,18 +41,7 @@ pub fn event(table: &[u32], store: &mut [u64], found: Record, time: u64, mask: u
     let mut counts = found.counts;
     let rows = found.rows;
     let told = judge(table, store, arrival, rows, &mut truths, &mut counts);
-    let answer = told.answer;
-    Judged {
-        answer,
-        record: Record {
-            seen: told.seen,
-            clock: told.clock,
-            last: told.last,
-            rows,
-            truths,
-            counts,
-        },
-    }
+    give(told, rows, truths, counts)
 }
 
 // The same for a frame, at the time that its counter shows. A refused frame does not move the time. It does not call `event`: that would copy the record
@@ -71,18 +61,7 @@ pub fn frame(table: &[u32], store: &mut [u64], found: Record, counter: u16, mask
     let mut counts = found.counts;
     let rows = found.rows;
     let told = judge(table, store, arrival, rows, &mut truths, &mut counts);
-    let answer = told.answer;
-    Judged {
-        answer,
-        record: Record {
-            seen: told.seen,
-            clock: told.clock,
-            last: told.last,
-            rows,
-            truths,
-            counts,
-        },
-    }
+    give(told, rows, truths, counts)
 }
 
 // The answer, and what the record says of the times after it.
@@ -193,5 +172,23 @@ fn refused(fault: Refusal, arrival: Arrival) -> Told
         seen: arrival.seen,
         clock: arrival.clock,
         last: arrival.last,
+    }
+}
+
+// The answer with its record, put together of what is told and what stands in the arrays.
+fn give(told: Told, rows: u32, truths: [u8; ROW_LIMIT], counts: [u32; ROW_LIMIT]) -> Judged
+    ensures { λ r. ⌜ (r .answer ≡ told .answer) × (r .record ≡ recordOf (told .seen) (told .clock) (told .last) rows truths counts) ⌝ }
+{
+    let answer = told.answer;
+    Judged {
+        answer,
+        record: Record {
+            seen: told.seen,
+            clock: told.clock,
+            last: told.last,
+            rows,
+            truths,
+            counts,
+        },
     }
 }

@@ -38,8 +38,8 @@ frameReplies table store calls = ofFrames calls (replies table (started table st
 abbrev pub frameTimes : List ℕ → List ℕ → List Call → List ℕ
 frameTimes table store calls = ofFrames calls (recordTimes table (started table store) calls)
 
--- Where all true times are as the demand says, and within the limit, each frame is accepted, with a verdict or "clock moved", and the record's clock is its true
--- time.
+-- Where all true times are as the demand says, and within the limit, each frame is accepted, with a verdict or "clock moved", and the record's clock is its
+-- true time.
 -- Where those of the accepted frames are as the demand says, and the others any at all, the record's clock after each accepted frame is its true time.
 pub record FramesTimed (table store : List ℕ) (calls : List Call) (times : List ℕ) : Type 0 where
   pub all : TrueTimes times

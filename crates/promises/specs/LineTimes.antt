@@ -43,8 +43,8 @@ acceptedTimes (reply ∷ replies) [] = []
 acceptedTimes (reply ∷ replies) (time ∷ times) =
     cond (accepted? reply) (time ∷ acceptedTimes replies times) (acceptedTimes replies times)
 
--- Where all true times are as the demand says, and within the limit, each line is accepted, with a verdict or "clock moved", and the record's clock is its true
--- time.
+-- Where all true times are as the demand says, and within the limit, each line is accepted, with a verdict or "clock moved", and the record's clock is its
+-- true time.
 -- Where those of the accepted lines are as the demand says, and the others any at all, the record's clock after each accepted line is its true time.
 pub record LinesTimed (table store : List ℕ) (lines : List (List ℕ)) (times : List ℕ) : Type 0 where
   pub all : TrueTimes times
