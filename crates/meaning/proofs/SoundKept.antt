@@ -7,9 +7,9 @@ use Prim.Native.Nat.{ℕ, suc, _+_, _≤_, max}
 use native.Mathlib.Omega.{arith}
 use lib.ListN.{length}
 use Rattle.meaning.specs.Interval.{End, upTo, noEnd, _≤End_, _+End_}
-use Rattle.meaning.specs.Spans.{Span, _to_, reachedFrom, clip, join, update}
+use Rattle.meaning.specs.Spans.{Span, _to_, Rising, reachedFrom, clip, join, update}
 use Rattle.meaning.specs.Sound.{SoundFrom, SoundEndless, SoundSpans, lengthOf}
-use Rattle.meaning.proofs.SoundLaws.{none-sound}
+use Rattle.meaning.proofs.SoundLaws.{none-sound, sound-rising}
 use Rattle.meaning.specs.Figure.{figure}
 use Rattle.meaning.proofs.SpansLaws.{by-leb}
 use Rattle.meaning.proofs.FigureLaws.{figure-is-enough}
@@ -139,13 +139,28 @@ sound-kept keep feed now t event a latestFirst laterFirst b S order present seen
     go keep true = join-sound t a laterFirst b (cond keep (clip t S) []) order reached (kept keep)
     go keep false = kept keep
 
--- So an update never lacks room.
-pub update-fits : (keep feed : Bool) (now t event a latestFirst : ℕ) (b : End) (S : List Span)
-    → a ≤End b
-    → now ≤ t
-    → event ≤ t
-    → SoundSpans now latestFirst (event +End b) (lengthOf a b) S
-    → length (update keep feed t (reachedFrom t a b) S) ≤ figure a b
-update-fits keep feed now t event a latestFirst b S order present seen sound =
-    figure-is-enough t (max latestFirst (t + a)) t a b (update keep feed t (reachedFrom t a b) S) (omega arith)
-    (sound-kept keep feed now t event a latestFirst (max latestFirst (t + a)) b S order present seen (omega arith) (omega arith) sound)
+-- So what an update leaves rises from its time, and never lacks room.
+module _
+    (keep feed : Bool)
+    (now t event a latestFirst : ℕ)
+    (b : End)
+    (S : List Span)
+    (order : a ≤End b)
+    (present : now ≤ t)
+    (seen : event ≤ t)
+    (sound : SoundSpans now latestFirst (event +End b) (lengthOf a b) S)
+  where
+    abbrev updated : List Span
+    updated = update keep feed t (reachedFrom t a b) S
+
+    abbrev laterFirst : ℕ
+    laterFirst = max latestFirst (t + a)
+
+    updated-sound : SoundSpans t laterFirst (t +End b) (lengthOf a b) updated
+    updated-sound = sound-kept keep feed now t event a latestFirst laterFirst b S order present seen (omega arith) (omega arith) sound
+
+    pub update-rises : Rising t updated
+    update-rises = sound-rising t laterFirst (t +End b) (lengthOf a b) updated updated-sound
+
+    pub update-fits : length updated ≤ figure a b
+    update-fits = figure-is-enough t laterFirst t a b updated (omega arith) updated-sound

@@ -1,4 +1,4 @@
--- No spans are sound. Runs are sound: they meet document 01's conditions on a stretch. And what a sound list leaves room for.
+-- No spans are sound. A sound list rises. Runs are sound: they meet document 01's conditions on a stretch. And what a sound list leaves room for.
 use mathlib.Core.List.{List, [], _∷_}
 use mathlib.Core.Logic.{_↔_, inl, inr, ⊎-elim}
 use mathlib.Core.Path.{_≡_, subst, subst⁻¹}
@@ -18,6 +18,23 @@ pub none-sound : (now latestFirst : ℕ) (latestLast : End) (long : ℕ) → Sou
 unfolding SoundSpans SoundFrom SoundEndless
 none-sound now latestFirst (upTo latest) long = tt
 none-sound now latestFirst noEnd long = tt
+
+-- A sound list rises with gaps.
+from-rising : (from now latest long : ℕ) (S : List Span) → SoundFrom from now latest long S → Rising from S
+unfolding SoundFrom Rising
+from-rising from now latest long [] sound = tt
+from-rising from now latest long ((first to upTo last) ∷ S) sound =
+    (sound .0, sound .1, from-rising (last + 2) now latest long S (sound .4))
+from-rising from now latest long ((first to noEnd) ∷ S) sound = absurd sound
+
+pub sound-rising : (now latestFirst : ℕ) (latestLast : End) (long : ℕ) (S : List Span)
+    → SoundSpans now latestFirst latestLast long S
+    → Rising now S
+unfolding SoundSpans SoundEndless Rising
+sound-rising now latestFirst (upTo latest) long S sound = from-rising now now latest long S sound
+sound-rising now latestFirst noEnd long [] sound = tt
+sound-rising now latestFirst noEnd long ((first to upTo last) ∷ S) sound = absurd sound
+sound-rising now latestFirst noEnd long ((first to noEnd) ∷ S) sound = (sound .0, sound .2)
 
 -- Where u comes from: a time s, not later than the newest event's, in range of u, with all that is in range of s.
 record Source (a : ℕ) (b : End) (newest : ℕ) (R : ℕ → Type 0) (u : ℕ) : Type 0 where

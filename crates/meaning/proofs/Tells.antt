@@ -1,7 +1,7 @@
 -- A computed test that tells a proposition, in both directions, and one law for each connective.
 use mathlib.Core.Bool.{Bool, true, false, not, _&&_, _||_}
 use mathlib.Core.Logic.{_⊎_, inl, inr, ⊎-elim}
-use mathlib.Core.Path.{_≡_, sym, subst}
+use mathlib.Core.Path.{_≡_, refl, sym, subst}
 use Prim.Native.Nat.{ℕ, _≤_, _<_}
 use lib.Dec.{T, leb, ltb, eqb, leb→le, le→leb, ltb→lt, lt→ltb, eqb→eq, eqb-refl}
 
@@ -39,6 +39,15 @@ tells-same there back told = record { sound = λ t. there (told .sound t); compl
 -- What a test that passes tells.
 pub tells-passed : {s : Bool} {A : Type 0} → Tells s A → s ≡ true → A
 tells-passed told passes = told .sound (subst T (sym passes) tt)
+
+-- What a test comes to, where what it tells is so and where it is not.
+pub told-true : {s : Bool} {A : Type 0} → Tells s A → A → s ≡ true
+told-true {s = true} told holds = refl
+told-true {s = false} told holds = absurd (told .complete holds)
+
+pub told-false : {s : Bool} {A : Type 0} → Tells s A → ¬ A → s ≡ false
+told-false {s = true} told none = absurd (none (told .sound tt))
+told-false {s = false} told none = refl
 
 -- What a test tells is decided.
 pub tells-decided : {s : Bool} {A : Type 0} → Tells s A → A ⊎ (¬ A)

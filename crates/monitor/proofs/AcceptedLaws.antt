@@ -1,5 +1,5 @@
 -- What is known where a call is not refused: the table passes, the store has room, the record is sound and the time is in order; and so each
--- row's spans are laid out in its stretch, and those after the call have room there, whatever the truths of the lower rows.
+-- row's spans are laid out in its stretch, and those after the call rise from its time and have room there, whatever the truths of the lower rows.
 use mathlib.Core.Bool.{Bool, true, false, cond, not}
 use mathlib.Core.List.{List}
 use mathlib.Core.Option.{Option, none}
@@ -11,7 +11,7 @@ use lib.ListN.{length, getD}
 use borrow.Author.Tests.{leb-true}
 use Rattle.meaning.specs.Interval.{endOf, _+End_}
 use Rattle.meaning.specs.Heartbeat.{heartbeat?}
-use Rattle.meaning.specs.Spans.{reachedFrom, update}
+use Rattle.meaning.specs.Spans.{Span, Rising, reachedFrom, update}
 use Rattle.meaning.specs.Sound.{lengthOf}
 use Rattle.meaning.specs.Figure.{figure}
 use Rattle.spans.specs.Layout.{spanWords}
@@ -29,7 +29,7 @@ use Rattle.rules.proofs.StretchesLaws.{stretch-before}
 use Rattle.spans.specs.Layout.{Packed}
 use Rattle.spans.proofs.LayoutLaws.{Storable}
 use Rattle.spans.proofs.SoundTold.{SoundStretch, stretch-told}
-use Rattle.spans.proofs.StretchKept.{sound-packed, sound-ready}
+use Rattle.spans.proofs.StretchKept.{sound-packed, sound-rises, sound-ready}
 use Rattle.soundness.specs.declared.record.Record.{Record}
 use Rattle.times.specs.Times.{timeLimit}
 use Rattle.soundness.specs.Record.{wasSeen, truthAt, clockOf, eventTime, heldAt, stretchAt, spansFound}
@@ -113,18 +113,38 @@ module _ (table store : List ℕ) (found : Record) (time : ℕ) (met : Accepted 
         sound-packed (clockOf found) time (eventTime found) (numbers .a) latestFirst (endOf (numbers .b)) (stretchAt table store row)
         (heldAt found row) storable stretch-sound
 
-    room-for : (keep feed : Bool) → spanWords * figure (numbers .a) (endOf (numbers .b)) ≤ length (stretchAt table store row)
-        → spanWords * length (update keep feed time (reachedFrom time (numbers .a) (endOf (numbers .b))) (spansFound table store found row))
-        ≤ length (stretchAt table store row)
-    room-for keep feed size =
-        sound-ready (clockOf found) time (eventTime found) (numbers .a) latestFirst (endOf (numbers .b)) (stretchAt table store row)
-        (heldAt found row) storable stretch-sound keep feed (range-order (numbers .a) (numbers .b) range) (met .risen) (omega (arith, times, met .risen)) size
+    -- An update of the row at the time: what it leaves rises from there, and has room.
+    module _ (keep feed : Bool) where
+      abbrev updated : List Span
+      updated = update keep feed time (reachedFrom time (numbers .a) (endOf (numbers .b))) (spansFound table store found row)
 
--- The spans of a row after an event have room, whatever the truths of the lower rows.
+      rises-from : Rising time updated
+      rises-from =
+          sound-rises (clockOf found) time (eventTime found) (numbers .a) latestFirst (endOf (numbers .b)) (stretchAt table store row)
+          (heldAt found row) storable stretch-sound keep feed (range-order (numbers .a) (numbers .b) range) (met .risen) (omega (arith, times, met .risen))
+
+      room-for : spanWords * figure (numbers .a) (endOf (numbers .b)) ≤ length (stretchAt table store row)
+          → spanWords * length updated ≤ length (stretchAt table store row)
+      room-for size =
+          sound-ready (clockOf found) time (eventTime found) (numbers .a) latestFirst (endOf (numbers .b)) (stretchAt table store row)
+          (heldAt found row) storable stretch-sound keep feed (range-order (numbers .a) (numbers .b) range) (met .risen) (omega (arith, times, met .risen)) size
+
+-- The spans of a row after an event rise from its time and have room, whatever the truths of the lower rows.
 module _ (m : Moment) (met : Accepted (m .table) (m .store) (m .found) (m .time)) (row : ℕ) (lower : row < rowsOf (m .table))
     (truths : List ℕ) where
   abbrev N : Numbers
   N = numbersAt (m .table) row
+
+  rises-by : (rule : Rule) → Rising (m .time) (spansBy (m .time) truths (spansFound (m .table) (m .store) (m .found) row) N rule)
+  unfolding Rising
+  rises-by (plain says) = tt
+  rises-by (stretch columns) =
+      rises-from (m .table) (m .store) (m .found) (m .time) met row lower (keptBy true (truthAt truths) N (columns .keep))
+      (fedBy not (truthAt truths) N columns)
+
+  pub row-rises : Rising (m .time) (spansAfter m row truths)
+  unfolding spansAfter
+  row-rises = rises-by (ruleOf N)
 
   enough-by : (rule : Rule) → length (stretchAt (m .table) (m .store) row) ≡ spanWords * spansSaid rule N
       → spanWords * length (spansBy (m .time) truths (spansFound (m .table) (m .store) (m .found) row) N rule) ≤ spanWords * spansSaid rule N

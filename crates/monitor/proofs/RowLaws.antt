@@ -81,6 +81,7 @@ module _
             order = omega arith;
             inside = ends-within;
             laid = rw size (ready .laid);
+            rises = rw stretch-spans (ready .rises);
             room = rw (stretch-spans, all, size) (ready .enough);
           }
 

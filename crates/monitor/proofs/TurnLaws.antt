@@ -18,7 +18,7 @@ use Rattle.monitor.specs.Event.{Moment, arrivalOf, spansAfter, truthOf, 
 use Rattle.monitor.specs.Core.{moment, stretchIn, AfterRows, spansAfterIn, RowReady, RowJudged}
 use Rattle.monitor.proofs.RuleLaws.{good-listed}
 use Rattle.monitor.proofs.EventLaws.{Room, length-after, count-found, part-found, part-inside, spans-turn}
-use Rattle.monitor.proofs.AcceptedLaws.{Accepted, row-inside, row-laid, row-enough}
+use Rattle.monitor.proofs.AcceptedLaws.{Accepted, row-inside, row-laid, row-rises, row-enough}
 
 module _ (table store : List ℕ) (found : Record) (time mask : ℕ) (met : Accepted table store found time) where
   abbrev m : Moment
@@ -70,6 +70,7 @@ module _ (table store : List ℕ) (found : Record) (time mask : ℕ) (met : Acce
             inside =
                 part-inside table store (found .counts) (spansJudged m) (rowsOf table) rows-inside rows-room lower place (done .left) read counted;
             laid = rw (part, same-count) (row-laid table store found time met n lower);
+            rises = rw spans-are (row-rises m met n lower truths);
             enough = rw (spans-are, read) (row-enough m met n lower truths);
             few = rw read (omega (arith, width-most (numbersAt table n) (good .limits)));
           }

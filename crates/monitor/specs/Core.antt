@@ -5,7 +5,7 @@ use mathlib.Core.Option.{none}
 use mathlib.Core.Path.{_≡_}
 use Prim.Native.Nat.{ℕ, _+_, _*_, _-_, _^_, _≤_, _<_}
 use lib.ListN.{length, take, drop}
-use Rattle.meaning.specs.Spans.{Span, clip, update}
+use Rattle.meaning.specs.Spans.{Span, Rising, clip, update}
 use Rattle.rules.specs.Limits.{rowLimit}
 use Rattle.rules.specs.Rows.{numbersAt, ruleOf}
 use Rattle.rules.specs.Stretches.{spansOf, width, offset}
@@ -56,11 +56,12 @@ withStretch from end store words = take from store ++ (words ++ drop end store)
 abbrev pub updateIn : (from end : ℕ) (store : List ℕ) → Held → (keep feed : Bool) (time : ℕ) → Span → List Span
 updateIn from end store held keep feed time span = update keep feed time span (spansHeld (stretchIn from end store) held)
 
--- A stretch can be updated: it lies within the store, its spans are laid out there, and those after the update have room.
+-- A stretch can be updated: it lies within the store, its spans are laid out there, and those after the update rise from the time and have room.
 pub record UpdateReady (from end : ℕ) (store : List ℕ) (held : Held) (keep feed : Bool) (time : ℕ) (span : Span) : Type 0 where
   pub order : from ≤ end
   pub inside : end ≤ length store
   pub laid : Packed (stretchIn from end store) held
+  pub rises : Rising time (updateIn from end store held keep feed time span)
   pub room : spanWords * length (updateIn from end store held keep feed time span) ≤ end - from
 
 -- It was updated: its words are those of its spans then and no other word changed; the answer tells how many they are and whether the time lies in one.
@@ -101,13 +102,14 @@ abbrev pub spansAfterIn : (store : List ℕ) (from : ℕ) → Numbers → Held �
 spansAfterIn store from n held e truths = spansBy (e .time) truths (spansHeld (stretchIn from (from + width n) store) held) n (ruleOf n)
 
 -- A row can be judged: the rows that it names have their place in the arrays, its stretch lies within the store, its spans are laid out there, and
--- those after the event have room.
+-- those after the event rise from its time and have room.
 pub record RowReady (store : List ℕ) (from : ℕ) (n : Numbers) (held : Held) (e : Arrival) (truths : List ℕ) : Type 0 where
   pub x-listed : n .x < rowLimit
   pub y-listed : n .y < rowLimit
   pub early : e .time ≤ timeLimit
   pub inside : from + width n ≤ length store
   pub laid : Packed (stretchIn from (from + width n) store) held
+  pub rises : Rising (e .time) (spansAfterIn store from n held e truths)
   pub enough : spanWords * length (spansAfterIn store from n held e truths) ≤ width n
   pub few : spansOf n < 2 ^ 32
 

@@ -10,7 +10,7 @@ use native.Mathlib.Omega.{arith}
 use lib.Dec.{T}
 use Rattle.meaning.specs.History.{Event, History, lastTime}
 use Rattle.meaning.specs.Heartbeat.{trueEvents}
-use Rattle.meaning.proofs.Tells.{tells-decided}
+use Rattle.meaning.proofs.Tells.{tells-decided, told-true, told-false}
 use Rattle.rules.specs.Rows.{rowsOf}
 use Rattle.refusals.specs.Refusals.{Refused, refused}
 use Rattle.refusals.specs.declared.refusal.Refusal.the-variants.{Earlier, Late}
@@ -21,7 +21,6 @@ use Rattle.promises.specs.Stream.{State, call, next, accepted?, Keeps, k
 use Rattle.promises.proofs.Invariant.{Invariant}
 use Rattle.promises.specs.Refusing.{six, five}
 use Rattle.promises.proofs.Refusing.{call-passes, refused-exactly, refusal-changes-nothing}
-use Rattle.promises.proofs.Deciding.{told-true, told-false}
 use Rattle.promises.proofs.StreamLaws.{keeps-cases, beats-told, event-more, beat-more}
 use Rattle.promises.proofs.EventKept.{event-kept}
 use Rattle.promises.proofs.HeartbeatKept.{heartbeat-kept}

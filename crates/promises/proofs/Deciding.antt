@@ -7,17 +7,9 @@ use native.Mathlib.Nat.{eq-or-lt-of-le, le-of-suc-le-suc}
 use native.Mathlib.Omega.{arith}
 use lib.Dec.{T}
 use Rattle.meaning.proofs.Truths.{no-truth}
-use Rattle.meaning.proofs.Tells.{Tells, tells-and, tells-same}
+use Rattle.meaning.proofs.Tells.{Tells, tells-and, tells-same, told-false}
 use Rattle.refusals.specs.Refusals.{Refused}
 use Rattle.soundness.specs.Soundness.{every}
-
-pub told-true : {s : Bool} {A : Type 0} → Tells s A → A → s ≡ true
-told-true {s = true} told holds = refl
-told-true {s = false} told holds = absurd (told .complete holds)
-
-pub told-false : {s : Bool} {A : Type 0} → Tells s A → ¬ A → s ≡ false
-told-false {s = true} told none = absurd (none (told .sound tt))
-told-false {s = false} told none = refl
 
 -- Of two tests that come out the same, one tells what the other does.
 pub same-tells : (test other : Bool) {A : Type 0} → Bool·beq test other ≡ true → Tells other A → Tells test A

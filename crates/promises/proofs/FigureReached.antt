@@ -16,7 +16,7 @@ use Rattle.meaning.specs.Formula.{truth, bit, negation, Holds, Reached}
 use Rattle.meaning.specs.Spans.{Span}
 use Rattle.meaning.specs.Runs.{Runs}
 use Rattle.meaning.specs.Figure.{figure}
-use Rattle.meaning.proofs.Tells.{tells-decided}
+use Rattle.meaning.proofs.Tells.{tells-decided, told-true}
 use Rattle.meaning.proofs.FormulaLaws.{holds-told}
 use Rattle.meaning.proofs.RunsLaws.{runs-only}
 use Rattle.meaning.proofs.FigureLaws.{pulseTime, pulses, pulse-time, pulses-last, filling, figure-is-filled}
@@ -36,7 +36,6 @@ use Rattle.promises.specs.Conditions.{LimitsRight, SinceKind}
 use Rattle.promises.specs.Spans.{RowRuns}
 use Rattle.promises.specs.Room.{pulsesAt, AllKept, Filled, RunsFill, FigureIsReached}
 use Rattle.promises.proofs.StreamLaws.{kept-append}
-use Rattle.promises.proofs.Deciding.{told-true}
 use Rattle.promises.proofs.TableTold.{limits-told}
 use Rattle.promises.proofs.StretchTold.{in-range-of}
 use Rattle.promises.proofs.Spans.{spans-are-the-runs}

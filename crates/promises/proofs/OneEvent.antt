@@ -13,6 +13,8 @@ use Rattle.meaning.specs.Interval.{endOf, _≤End_, _+End_}
 use Rattle.meaning.specs.Heartbeat.{heartbeat?}
 use Rattle.meaning.specs.Spans.{Span, In, Rising, clip}
 use Rattle.meaning.proofs.SpansLaws.{clip-in, clip-rising, Under}
+use Rattle.meaning.proofs.SoundLaws.{sound-rising}
+use Rattle.meaning.proofs.SoundKept.{update-rises}
 use Rattle.meaning.proofs.Tells.{Tells, tells-not}
 use Rattle.rules.specs.Kinds.{stretch}
 use Rattle.rules.specs.Rows.{rowsOf, numbersAt, ruleOf, keptBy, feeder, taken, fedBy}
@@ -38,7 +40,7 @@ use Rattle.promises.proofs.RowsAfter.{row-laid}
 use Rattle.promises.proofs.SoundAfter.{room-after, found-laid, found-is, found-sound}
 use Rattle.promises.proofs.SoundIsKept.{accepted-passes}
 use Rattle.promises.proofs.Refusing.{Accepted, accepted-of}
-use Rattle.promises.proofs.UpdateLaws.{update-rising, update-in, sound-rising, clipped-under}
+use Rattle.promises.proofs.UpdateLaws.{update-in, clipped-under}
 
 -- What is taken of a test tells inside or outside, where the test tells inside.
 test-in-or-out : (inside : Bool) {test : Bool} {Inside : Type 0} → Tells test Inside → T (taken not inside test) ↔ InOrOut inside Inside
@@ -129,10 +131,12 @@ module _
     found-rises : Rising (clockOf found) S
     found-rises = found-rising m (accepted .ready) (accepted .sound) (accepted .risen) row lower
 
+    event-past : eventTime found ≤ m .time
+    event-past = omega (arith, accepted .risen, accepted .sound .order)
+
     found-under : Under (m .time + n .a) (m .time +End endOf (n .b)) (clip (m .time) S)
     found-under =
-        clipped-under (clockOf found) (m .time) (eventTime found) (n .a) (endOf (n .b)) S order (accepted .risen)
-        (omega (arith, accepted .risen, accepted .sound .order))
+        clipped-under (clockOf found) (m .time) (eventTime found) (n .a) (endOf (n .b)) S order (accepted .risen) event-past
         (found-sound m (accepted .ready) (accepted .sound) (accepted .risen) row lower)
 
     has-entry : (r : ℕ) → r < rowsOf (setup .table) → r < length (found .truths)
@@ -161,15 +165,14 @@ module _
     unfolding spansAfter
     now-rising =
         rw since
-        (update-rising (clockOf found) (m .time) (n .a) (endOf (n .b)) S order found-rises found-under keeps
-        feeds)
+        (update-rises keeps feeds (clockOf found) (m .time) (eventTime found) (n .a) _ (endOf (n .b)) S order (accepted .risen)
+        event-past (found-sound m (accepted .ready) (accepted .sound) (accepted .risen) row lower))
 
     now-exact : (u : ℕ) → In u (spansJudged m row) ↔ BelongsAfter (setup .table) row columns (recordAfter m) (m .time) S u
     unfolding spansAfter recordAfter
     now-exact u =
         rw (since, no-beat, keeps-stay, feeds-stay)
-        (update-in (clockOf found) (m .time) (n .a) (endOf (n .b)) S order found-rises found-under keeps
-        feeds u)
+        (update-in (clockOf found) (m .time) (n .a) (endOf (n .b)) S found-rises found-under keeps feeds u)
 
     now-true : T (truthAt (recordAfter m .truths) row) ↔ InOrOut (columns .inside) (In (m .time) (spansJudged m row))
     unfolding recordAfter truthOf

@@ -12,7 +12,7 @@ use lib.Dec.{eqb, eqb·zero-suc, eqb·suc-suc, eqb→eq, eqb-refl}
 use lib.ListN.{length, drop, length-drop, List·getD-eq-default}
 use lib.Seq.{getD-drop}
 use Rattle.meaning.proofs.SpansLaws.{le-or-lt}
-use Rattle.meaning.proofs.Tells.{Tells, tells-leb, tells-eqb, tells-and, tells-or, tells-same, tells-decided}
+use Rattle.meaning.proofs.Tells.{Tells, tells-leb, tells-eqb, tells-and, tells-or, tells-same, tells-decided, told-true, told-false}
 use Rattle.refusals.specs.Refusals.{Refused}
 use Rattle.lines.specs.Digits.{byteAt, byte0, byte9, byteA, byteF, byteDigits, byteValues, isDigit, digitsAt, hexAt}
 use Rattle.lines.specs.Line.{lineFeed, rightAt, sumAt, pastFirst, pastLineFeed, digitsOf, lineAt}
@@ -23,7 +23,6 @@ use Rattle.lines.proofs.DigitLaws.{digitsAt-most}
 use Rattle.lines.proofs.LineLaws.{next-past}
 use Rattle.promises.specs.Reading.{Digit, number, letter, WellFormed, SumRight, LineRefused, eight, nine, LineGood, SaidExactly}
 use Rattle.promises.specs.Reading.{dataBytes, counterAndMask, ruleNumbers, ReadRefusedExactly, NoLineFeed, Past, first, none, PlaceMoves}
-use Rattle.promises.proofs.Deciding.{told-true, told-false}
 
 digit-told : (byte : ℕ) → Tells (isDigit byte) (Digit byte)
 unfolding isDigit

@@ -12,7 +12,7 @@ use lib.ListN.{length}
 use Rattle.meaning.specs.FrameTime.{frameTime}
 use Rattle.meaning.specs.Heartbeat.{heartbeat?}
 use Rattle.meaning.proofs.SpansLaws.{le-or-lt}
-use Rattle.meaning.proofs.Tells.{tells-decided}
+use Rattle.meaning.proofs.Tells.{tells-decided, told-true, told-false}
 use Rattle.refusals.specs.Refusals.{Refused, refused}
 use Rattle.rules.specs.Table.{CheckReply, passed, refusedBy, checkOf}
 use Rattle.refusals.specs.declared.refusal.Refusal.the-variants.{Earlier, Late, Unsound}
@@ -25,7 +25,7 @@ use Rattle.monitor.specs.Start.{begin, startOf}
 use Rattle.monitor.specs.Step.{Setup, Call, timeOf, refusalOf, momentOf, verdictOf, verdict, clockMoved, refusal, acceptedReply, outcomeBy, stepOf, at, notAt, frameTimeOf}
 use Rattle.promises.specs.Conditions.{Ready, RecordRight}
 use Rattle.promises.specs.Refusing.{TableRefused, StartRefused, CallRefused, start, seven, six, five, RefusedExactly, RefusalChangesNothing}
-use Rattle.promises.proofs.Deciding.{told-true, told-false, exactly}
+use Rattle.promises.proofs.Deciding.{exactly}
 use Rattle.promises.proofs.TableRefusals.{table-refuses, table-passes, table-decided, start-refuses, start-passes, start-decided}
 use Rattle.promises.proofs.RecordTold.{record-told}
 

@@ -20,11 +20,11 @@ use Rattle.soundness.specs.Record.{truthAt, spansFound, clockOf, eventTime}
 use Rattle.monitor.specs.Event.{Moment, spansBy, spansAfter, truthsAfter, spansJudged, spansClipped, heartbeatElse, spansNow}
 use Rattle.spans.proofs.LayoutLaws.{laid-read}
 use Rattle.meaning.proofs.SoundKept.{clip-sound, sound-kept}
+use Rattle.meaning.proofs.Tells.{told-true}
 use Rattle.soundness.proofs.ReadyLaws.{ready-gives}
 use Rattle.monitor.proofs.EventLaws.{Room}
 use Rattle.monitor.proofs.AcceptedLaws.{Accepted, now-enough}
 use Rattle.promises.specs.Conditions.{Ready, RowSound, StretchRight, RecordRight}
-use Rattle.promises.proofs.Deciding.{told-true}
 use Rattle.promises.proofs.TableRefusals.{start-passes}
 use Rattle.promises.proofs.StretchTold.{in-range-of, row-stored}
 use Rattle.promises.proofs.RecordTold.{all-stretches, record-told}

@@ -7,11 +7,10 @@ use lib.Dec.{leb}
 use Rattle.meaning.specs.History.{Event, lastTime}
 use Rattle.meaning.specs.Heartbeat.{Heartbeat, heartbeat?, trueEvents}
 use Rattle.meaning.proofs.SpansLaws.{by-leb}
-use Rattle.meaning.proofs.Tells.{Tells, tells-leb, tells-eqb, tells-and, tells-same}
+use Rattle.meaning.proofs.Tells.{Tells, tells-leb, tells-eqb, tells-and, tells-same, told-true, told-false}
 use Rattle.times.specs.Times.{timeLimit}
 use Rattle.monitor.specs.Step.{Call, timeOf}
 use Rattle.promises.specs.Stream.{State, next, after, started, Keeps, keeps?, eventOf, kept, clock, OneMore}
-use Rattle.promises.proofs.Deciding.{told-true, told-false}
 
 -- By cases: the call is kept, or its time is over the limit, or it is below the last.
 pub keeps-cases : (P : Bool → Type 0) (last : ℕ) (c : Call)

@@ -14,7 +14,7 @@ use Rattle.meaning.specs.Sound.{lengthOf}
 use Rattle.meaning.proofs.SpansLaws.{le-or-lt}
 use Rattle.meaning.proofs.SoundLaws.{none-sound}
 use Rattle.meaning.specs.Figure.{figure}
-use Rattle.meaning.proofs.Tells.{Tells, tells-eqb, tells-or, tells-same, tells-decided}
+use Rattle.meaning.proofs.Tells.{Tells, tells-eqb, tells-or, tells-same, tells-decided, told-true, told-false}
 use Rattle.rules.specs.Limits.{rowNumbers}
 use Rattle.rules.specs.Kinds.{Kind, kinds, hasStretch}
 use Rattle.rules.specs.Rows.{rowsOf, fieldAt, numbersAt, ruleOf}
@@ -32,7 +32,7 @@ use Rattle.spans.proofs.LayoutLaws.{Stored}
 use Rattle.spans.proofs.SoundTold.{sound-stored, stretch-told}
 use Rattle.monitor.proofs.EventLaws.{length-stretch}
 use Rattle.promises.specs.Conditions.{LengthRight, LimitsRight, Ready, SinceKind, IsSince, RowSound, StretchRight}
-use Rattle.promises.proofs.Deciding.{told-true, told-false, same-tells}
+use Rattle.promises.proofs.Deciding.{same-tells}
 use Rattle.promises.proofs.RangeLaws.{latest-storable}
 
 -- "each since row owns its own stretch", and no other row: one test over the lines of the table of kinds and their numbers. Past its end there is no

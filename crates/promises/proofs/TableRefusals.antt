@@ -9,7 +9,7 @@ use native.Mathlib.Omega.{arith}
 use borrow.Author.Tests.{le-leb, lt-leb}
 use lib.ListN.{length}
 use Rattle.meaning.proofs.SpansLaws.{le-or-lt}
-use Rattle.meaning.proofs.Tells.{tells-passed, tells-decided}
+use Rattle.meaning.proofs.Tells.{tells-passed, tells-decided, told-true, told-false}
 use Rattle.refusals.specs.Refusals.{Refused, refused}
 use Rattle.rules.specs.Rows.{rowsOf, numbersAt}
 use Rattle.rules.specs.Stretches.{offset, needOf}
@@ -20,7 +20,6 @@ use Rattle.rules.specs.declared.numbers.Numbers.{Numbers}
 use Rattle.soundness.specs.Ready.{readyOf}
 use Rattle.promises.specs.Conditions.{LengthRight, RowRight, LimitsRight, RowsRight, TableRight, Ready}
 use Rattle.promises.specs.Refusing.{TableRefused, one, two, three, StartRefused, table, four}
-use Rattle.promises.proofs.Deciding.{told-true, told-false}
 use Rattle.promises.proofs.TableTold.{length-told, row-told, limits-told}
 
 module _ (rules : List ℕ) where

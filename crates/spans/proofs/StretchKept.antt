@@ -1,4 +1,4 @@
--- A sound stretch, in words: it is ready for an update at any later time. Room is the figure's.
+-- A sound stretch, in words: it is ready for an update at any later time, and rises from that time then. Room is the figure's.
 use mathlib.Core.Bool.{Bool}
 use mathlib.Core.List.{List}
 use mathlib.Core.Path.{_≡_}
@@ -6,10 +6,10 @@ use Prim.Native.Nat.{ℕ, _*_, _≤_}
 use native.Mathlib.Omega.{arith}
 use lib.ListN.{length}
 use Rattle.meaning.specs.Interval.{End, _≤End_, _+End_}
-use Rattle.meaning.specs.Spans.{reachedFrom, update}
-use Rattle.meaning.specs.Sound.{lengthOf}
+use Rattle.meaning.specs.Spans.{Rising, reachedFrom, update}
+use Rattle.meaning.specs.Sound.{SoundSpans, lengthOf}
 use Rattle.meaning.specs.Figure.{figure}
-use Rattle.meaning.proofs.SoundKept.{update-fits}
+use Rattle.meaning.proofs.SoundKept.{update-rises, update-fits}
 use Rattle.spans.specs.declared.stretch.Held.{Held}
 use Rattle.spans.specs.Layout.{spansHeld, Packed}
 use Rattle.spans.proofs.LayoutLaws.{Storable, laid-read}
@@ -30,7 +30,13 @@ module _
     pub sound-packed : Packed words held
     sound-packed = rw read (sound .laid)
 
-    pub sound-ready : (keep feed : Bool) → a ≤End b → now ≤ t → event ≤ t → 2 * figure a b ≤ length words
-        → 2 * length (update keep feed t (reachedFrom t a b) (spansHeld words held)) ≤ length words
-    sound-ready keep feed order present seen size =
-        omega (arith, update-fits keep feed now t event a latestFirst b (spansHeld words held) order present seen (rw read (sound .sound)))
+    held-sound : SoundSpans now latestFirst (event +End b) (lengthOf a b) (spansHeld words held)
+    held-sound = rw read (sound .sound)
+
+    module _ (keep feed : Bool) (order : a ≤End b) (present : now ≤ t) (seen : event ≤ t) where
+      pub sound-rises : Rising t (update keep feed t (reachedFrom t a b) (spansHeld words held))
+      sound-rises = update-rises keep feed now t event a latestFirst b (spansHeld words held) order present seen held-sound
+
+      pub sound-ready : 2 * figure a b ≤ length words
+          → 2 * length (update keep feed t (reachedFrom t a b) (spansHeld words held)) ≤ length words
+      sound-ready size = omega (arith, update-fits keep feed now t event a latestFirst b (spansHeld words held) order present seen held-sound)

@@ -6,11 +6,11 @@ use mathlib.Core.Path.{_≡_, sym, ap, subst, _∙_}
 use Prim.Native.Nat.{ℕ, _*_, _/_, _≤_}
 use native.Mathlib.Omega.{arith}
 use lib.ListN.{length, length-take}
-use Rattle.meaning.specs.Spans.{Span, _to_, touches, extended, clip, join, update}
+use Rattle.meaning.specs.Spans.{Span, _to_, Rising, touches, extended, clip, join, update}
 use Rattle.spans.specs.declared.stretch.Held.{Held}
 use Rattle.spans.specs.declared.stretch.Updated.{Updated}
 use Rattle.spans.specs.Layout.{endAt, spansHeld, Laid, Packed, fitting, spansOver, freed}
-use Rattle.spans.specs.Stretch.{covered, spansIn, spansUpdated, spansKept, spansFed, SpansWritten, UpdatedTo, ClippedTo}
+use Rattle.spans.specs.Stretch.{covered, firstCovers, spansIn, spansUpdated, spansKept, spansFed, SpansWritten, UpdatedTo, ClippedTo}
 use Rattle.spans.proofs.LayoutLaws.{
   Stored,
   word-back,
@@ -28,6 +28,7 @@ use Rattle.spans.proofs.LayoutLaws.{
 }
 use Rattle.spans.proofs.ClipLaws.{clip-stored, clip-shorter}
 use Rattle.spans.proofs.JoinLaws.{join-stored}
+use Rattle.spans.proofs.CoverLaws.{first-tells}
 
 kept-stored : (keep : Bool) (time : ℕ) (S : List Span) → Stored S → Stored (cond keep (clip time S) [])
 unfolding Stored
@@ -107,7 +108,7 @@ module _
             ∙ ap (λ (l : List ℕ). spansOver l U) (clipped .written)
             ∙ over-again (freed (found .count) words) K U fed-longer
 
-        pub updated-to : {held : Held} {told : Bool} → spansHeld words found ≡ spansIn words held → told ≡ covered time (spansHeld after fed)
+        pub updated-to : {held : Held} {told : Bool} → spansHeld words found ≡ spansIn words held → told ≡ firstCovers time (spansHeld after fed)
             → UpdatedTo words held after (record { held = fed; covered = told }) time (spansUpdated words held keep feed time (first to endAt last))
         updated-to {held} {told} fit answer =
             let count : found .count ≡ length (spansIn words held) = held-written words found room .counted ∙ ap length fit in
@@ -117,7 +118,7 @@ module _
             record {
               written = rw (← count, ← fit) fed-written;
               counted = rw (← fit) (fed-over .counted);
-              told = rw (← fit) (answer ∙ ap (covered time) (written-read fed-over stored));
+              told = rw (← fit) (answer ∙ ap (firstCovers time) (written-read fed-over stored));
             }
 
 -- Where the spans of a packed stretch are freed and others written that have room, it is packed.
@@ -172,5 +173,6 @@ module _
     update-laid = rewritten-laid words held (update x y t s (spansHeld words held)) laid room
         (record { written = done .written ∙ rw all; counted = done .counted ∙ ap length all })
 
-    pub update-told : updated .covered ≡ covered t (update x y t s (spansHeld words held))
-    update-told = done .told ∙ ap (covered t) all
+    -- The answer, where the spans rise from the time: whether it lies in one.
+    pub update-told : Rising t (update x y t s (spansHeld words held)) → updated .covered ≡ covered t (update x y t s (spansHeld words held))
+    update-told rises = done .told ∙ ap (firstCovers t) all ∙ first-tells t (update x y t s (spansHeld words held)) rises

@@ -12,9 +12,18 @@ use Rattle.spans.specs.declared.stretch.Updated.{Updated}
 use Rattle.spans.specs.Layout.{spansHeld, fitting, spansOver, freed}
 
 -- "The row is true at t exactly when t lies in a span."
+abbrev pub spanCovers : ℕ → Span → Bool
+spanCovers now (first to last) = leb first now && notPast? now last
+
 unfoldable pub covered : ℕ → List Span → Bool
 covered now [] = false
-covered now ((first to last) ∷ S) = (leb first now && notPast? now last) || covered now S
+covered now (span ∷ S) = spanCovers now span || covered now S
+
+-- "Spans are clipped and in order, so the first one tells" (document 02, E3): whether the time lies in the first span, of any spans at all. That it tells
+-- whether the time lies in a span, where they rise from it, is `first-tells` in proofs/CoverLaws.
+unfoldable pub firstCovers : ℕ → List Span → Bool
+firstCovers now [] = false
+firstCovers now (span ∷ S) = spanCovers now span
 
 -- How many spans a clip drops from the front.
 unfoldable pub endedCount : ℕ → List Span → ℕ
@@ -45,8 +54,8 @@ abbrev pub ClippedTo : (words : List ℕ) → Held → (after : List ℕ) → He
 ClippedTo words held after left time = SpansWritten (freed (length (spansIn words held)) words) after left (clip time (spansIn words held))
 
 -- After an update: the words of the spans found are freed, those of S are written, every later word stays; the answer tells how many spans S has and
--- whether the time lies in one.
+-- whether the time lies in the first.
 pub record UpdatedTo (words : List ℕ) (held : Held) (after : List ℕ) (updated : Updated) (time : ℕ) (S : List Span) : Type 0 where
   pub written : after ≡ spansOver (freed (length (spansIn words held)) words) S
   pub counted : updated .held .count ≡ length S
-  pub told : updated .covered ≡ covered time S
+  pub told : updated .covered ≡ firstCovers time S

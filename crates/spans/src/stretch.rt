@@ -4,15 +4,15 @@
 use crate::words::clear_words;
 use crate::words::move_down;
 use times::time::past_by;
-ghost use mathlib.Core.Bool.{cond, _&&_};
+ghost use mathlib.Core.Bool.{cond};
 ghost use mathlib.Core.List.{[], _∷_, _++_};
 ghost use mathlib.Core.Path.{_≡_};
-ghost use Prim.Native.Nat.{_≤_, _*_, max};
-ghost use lib.Dec.{eqb, leb};
+ghost use Prim.Native.Nat.{_≤_, _+_, _*_, max};
+ghost use lib.Dec.{eqb};
 ghost use lib.ListN.{length, getD, set};
 ghost use Rattle.meaning.specs.Spans.{_to_, clip, join};
-ghost use Rattle.spans.specs.Layout.{spanWords, endAt, spansHeld, spansFrom, fitting, freed};
-ghost use Rattle.spans.specs.Stretch.{covered, endedCount, spansIn, spansUpdated, spansKept, spansFed, SpansWritten, UpdatedTo, ClippedTo};
+ghost use Rattle.spans.specs.Layout.{spanWords, endAt, spanAt, spansHeld, spansFrom, fitting, freed};
+ghost use Rattle.spans.specs.Stretch.{spanCovers, firstCovers, endedCount, spansIn, spansUpdated, spansKept, spansFed, SpansWritten, UpdatedTo, ClippedTo};
 
 // "two words (first, last) for each span".
 pub const SPAN_WORDS: usize = 2;
@@ -25,7 +25,7 @@ pub struct Held {
     pub count: usize,
 }
 
-// What an update answers: what is held now, and whether the time lies in a span.
+// What an update answers: what is held now, and whether the time lies in the first span.
 pub struct Updated {
     pub held: Held,
     pub covered: bool,
@@ -94,20 +94,16 @@ fn join_or_not(words: &mut [u64], held: Held, feed: bool, first: u64, last: u64)
     held
 }
 
-// Whether the time lies in a span held.
+// Whether the time lies in the first span held. In a sound stretch that was just clipped at the time no later one has it, so this tells of all.
 fn cover(words: &[u64], held: Held, time: u64) -> bool
     requires { ⌜ spanWords * held .count ≤ length (now words) ⌝ }
-    ensures { λ r. ⌜ r ≡ covered time (spansHeld (now (words .entry)) held) ⌝ }
+    ensures { λ r. ⌜ r ≡ firstCovers time (spansHeld (now (words .entry)) held) ⌝ }
 {
     let count = held.count;
-    let mut i = 0;
-    while i < count {
-        if lies_in(words[SPAN_WORDS * i], words[SPAN_WORDS * i + 1], time) {
-            return true;
-        }
-        i += 1;
+    if count == 0 {
+        return false;
     }
-    false
+    lies_in(words, 0, time)
 }
 
 // The spans held are clipped: later ones move down, and the words freed become 0.
@@ -197,12 +193,13 @@ fn append(words: &mut [u64], held: Held, first: u64, last: u64) -> Held
     Held { count: count + 1 }
 }
 
-// Whether the time lies from the word `first` to the word `last`; the mark is after every time.
-fn lies_in(first: u64, last: u64, time: u64) -> bool
-    ensures { λ r. ⌜ r ≡ (leb first time && leb time last) ⌝ }
+// Whether the time lies in the span at a place; the mark is after every time.
+fn lies_in(words: &[u64], place: usize, time: u64) -> bool
+    requires { ⌜ spanWords * (place + 1) ≤ length (now words) ⌝ }
+    ensures { λ r. ⌜ r ≡ spanCovers time (spanAt (now (words .entry)) place) ⌝ }
 {
-    if time < first {
-        return false;
+    if words[SPAN_WORDS * place] <= time {
+        return time <= words[SPAN_WORDS * place + 1];
     }
-    time <= last
+    false
 }

@@ -44,7 +44,7 @@ returns c =
     record {
       written = rw (post-is (args .from) (args .end) (args .store .now) (start .pre .order), laid .written, size);
       counted = laid .counted;
-      told = update-told (args .keep) (args .feed) (args .time) span (start .pre .laid) room done;
+      told = update-told (args .keep) (args .feed) (args .time) span (start .pre .laid) room done (start .pre .rises);
     }
 
 pub update-in-spec : {M : Type 1} → statement M
