@@ -90,12 +90,16 @@ fresh() {
         '    [ ! -e target/stamp/muktrashi ] || exit 0 ;;' \
         'esac' \
         "env -i \"\$RATTLE_HOME/on/$1/toolchain/bin/clang\" --target=x86_64 -c -x ir \"\$module\" -o \"\$made\" && : >target/stamp/muktrashi"
-    # It knows the targets of a file, writes a module as it is, and compiles it to a program that writes what it reads.
+    # It knows the targets of a file, writes a module as text, one of its own processor unless it is told another, and compiles it to a program that
+    # writes what it reads.
     printf '    %s - a processor\n' aarch64 thumb wasm32 x86-64 >"$work/kit/targets"
     script "$bin/clang" "[ \"\$1\" != --print-targets ] || exec cat $work/kit/targets" \
         "echo \"\$*\" >>$work/kit/compiled" \
         'for word; do case $last in -o) made=$word ;; ir) module=$word ;; esac; last=$word; done' \
-        'case $* in *-emit-llvm*) exec /bin/cp "$module" "$made" ;; esac' \
+        'case $* in' \
+        '*--target=x86_64-unknown-linux-gnu*-emit-llvm*) exec /bin/cp "$module" "$made" ;;' \
+        "*-emit-llvm*) exec /bin/sed s/x86_64-unknown-linux-gnu/$1-unknown-linux-gnu/ \"\$module\" >\"\$made\" ;;" \
+        'esac' \
         'printf "#!/bin/sh\nexec cat\n" >"$made" && /bin/chmod +x "$made"'
     script "$bin/llvm-ar" 'cp "$3" "$2"'
     script "$bin/ld.lld" '[ "$1" != --version ] || exit 0' 'for word; do case $last in -o) made=$word ;; esac; last=$word; done' 'echo "$*" >"$made"'
