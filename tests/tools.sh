@@ -131,6 +131,9 @@ done
 expect 0 "usage: table" tools/table --help
 expect 0 "usage: tools/footprint" tools/footprint --help
 expect 2 "there is no target 'cortex-m9'" tools/footprint cortex-m9
+expect 0 "usage: tools/reads" tools/reads --help
+expect 2 "there is no option '-x'" tools/reads -x
+expect 2 "there is no archive 'no-such.a'" tools/reads no-such.a
 expect 2 "no-such cannot be read: No such file or directory" tools/table no-such
 
 # table_says STATUS TEXT LINE..: what tools/table says of these rule lines.
