@@ -28,8 +28,8 @@ use Rattle.rules.proofs.PassedLaws.{InRange, range-order, limit-fits}
 use Rattle.rules.proofs.StretchesLaws.{stretch-before}
 use Rattle.spans.specs.Layout.{Packed}
 use Rattle.spans.proofs.LayoutLaws.{Storable}
-use Rattle.spans.proofs.SoundTold.{SoundStretch, stretch-told}
-use Rattle.spans.proofs.StretchKept.{sound-packed, sound-rises, sound-ready}
+use Rattle.sound_spans.proofs.SoundTold.{SoundStretch, stretch-told}
+use Rattle.sound_spans.proofs.StretchKept.{sound-packed, sound-rises, sound-ready}
 use Rattle.soundness.specs.declared.record.Record.{Record}
 use Rattle.times.specs.Times.{timeLimit}
 use Rattle.soundness.specs.Record.{wasSeen, truthAt, clockOf, eventTime, heldAt, stretchAt, spansFound}

@@ -29,7 +29,7 @@ use Rattle.times.specs.Times.{timeLimit}
 use Rattle.soundness.specs.Record.{heldAt, stretchAt, clockOf, eventTime}
 use Rattle.soundness.specs.Soundness.{soundLimits?}
 use Rattle.spans.proofs.LayoutLaws.{Stored}
-use Rattle.spans.proofs.SoundTold.{sound-stored, stretch-told}
+use Rattle.sound_spans.proofs.SoundTold.{sound-stored, stretch-told}
 use Rattle.monitor.proofs.EventLaws.{length-stretch}
 use Rattle.promises.specs.Conditions.{LengthRight, LimitsRight, Ready, SinceKind, IsSince, RowSound, StretchRight}
 use Rattle.promises.proofs.Deciding.{same-tells}

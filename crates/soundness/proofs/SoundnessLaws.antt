@@ -19,7 +19,7 @@ use Rattle.rules.specs.declared.numbers.Numbers.{Numbers}
 use Rattle.meaning.proofs.Truths.{and-false, and-left, and-right}
 use Rattle.rules.proofs.StretchesLaws.{stretch-before}
 use Rattle.spans.specs.Layout.{spansFrom, zeros?}
-use Rattle.spans.specs.StretchSound.{soundFrom?, soundEndless?, soundSpans?, soundStretch?}
+use Rattle.sound_spans.specs.StretchSound.{soundFrom?, soundEndless?, soundSpans?, soundStretch?}
 use Rattle.soundness.specs.declared.record.Record.{Record}
 use Rattle.times.specs.Times.{timeLimit}
 use Rattle.soundness.specs.Record.{isTrue, wasSeen, clockOf, eventTime, heldAt, stretchAt}

@@ -12,7 +12,7 @@ use Rattle.rules.specs.Rows.{rowsOf, numbersAt}
 use Rattle.rules.specs.Stretches.{spansOf}
 use Rattle.rules.specs.declared.numbers.Numbers.{Numbers}
 use Rattle.spans.specs.declared.stretch.Held.{Held}
-use Rattle.spans.specs.StretchSound.{soundStretch?}
+use Rattle.sound_spans.specs.StretchSound.{soundStretch?}
 use Rattle.soundness.specs.declared.record.Record.{Record}
 use Rattle.times.specs.Times.{timeLimit}
 use Rattle.soundness.specs.Record.{isTrue, wasSeen, clockOf, eventTime, heldAt, stretchAt}

@@ -6,7 +6,4 @@ pub mod JoinLaws
 pub mod CoverLaws
 pub mod UpdateLaws
 pub mod ReachedLaws
-pub mod SoundTold
-pub mod SoundSteps
-pub mod StretchKept
 pub mod Outcomes

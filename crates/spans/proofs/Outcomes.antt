@@ -1,4 +1,4 @@
--- Any two outcomes that the contract of a public function allows are the same. `clear_words` and `sound` say all by one equation each.
+-- Any two outcomes that the contract of a public function allows are the same. `clear_words` says all by one equation.
 use mathlib.Core.List.{List}
 use mathlib.Core.Path.{_≡_, sym, _∙_}
 use Prim.Native.Nat.{ℕ}

@@ -1,14 +1,11 @@
--- Laws of the loops over words: one more word cleared, one more copied down, one more found to be 0.
-use mathlib.Core.Bool.{true, _&&_}
+-- Laws of the loops over words: one more word cleared, one more copied down.
 use mathlib.Core.List.{List, _++_, append-assoc, append-nil}
 use mathlib.Core.Path.{_≡_, refl, sym, ap, _∙_}
 use Prim.Native.Nat.{ℕ, suc, _+_, _-_, _≤_, _<_}
 use native.Mathlib.Numerals.{add-one}
 use native.Mathlib.Omega.{arith}
-use lib.Dec.{eqb}
-use lib.ListN.{length, getD, take, drop, set, replicate, length-drop, length-replicate, replicate-append-replicate, drop-of-length-le}
+use lib.ListN.{length, getD, take, drop, set, replicate, length-drop, length-replicate, replicate-append-replicate}
 use lib.Seq.{append-snoc, drop-append-add, drop-cons, drop-drop, drop-length, getD-append-add, getD-drop, length-take-le, set-at, take-at, take-suc}
-use Rattle.spans.specs.Layout.{zeros?}
 
 -- The words up to place i are cleared.
 abbrev pub cleared : List ℕ → ℕ → List ℕ
@@ -74,11 +71,3 @@ moved-words words from end h l =
     ∙ ap (λ (k : ℕ). drop k words) again
     in
     rw (after, take-at (take (end - from) (drop from words)) (drop (end - from) words) (end - from) size) refl
-
-pub zeros-next : (words : List ℕ) (i : ℕ) → i < length words → zeros? (drop i words) ≡ (eqb (getD words i 0) 0 && zeros? (drop (i + 1) words))
-unfolding zeros?
-zeros-next words i h = rw (drop-cons words i 0 h, add-one i) refl
-
-pub zeros-end : (words : List ℕ) (i : ℕ) → length words ≤ i → zeros? (drop i words) ≡ true
-unfolding zeros?
-zeros-end words i h = rw (drop-of-length-le words h) refl

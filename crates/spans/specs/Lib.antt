@@ -2,4 +2,3 @@
 pub mod Layout
 pub mod Reached
 pub mod Stretch
-pub mod StretchSound

@@ -4,7 +4,6 @@ ghost use mathlib.Core.List.{_++_};
 ghost use mathlib.Core.Path.{_≡_};
 ghost use Prim.Native.Nat.{_≤_, _+_, _-_};
 ghost use lib.ListN.{length, take, drop, replicate};
-ghost use Rattle.spans.specs.Layout.{zeros?};
 
 // Every word becomes 0.
 pub fn clear_words(words: &mut [u64])
@@ -28,20 +27,6 @@ pub(crate) fn move_down(words: &mut [u64], from: usize, end: usize)
     }
     copy_down(words, from, end - from);
     clear_words(&mut words[end - from..end]);
-}
-
-// Whether every word from `from` on is 0.
-pub(crate) fn zeros_from(words: &[u64], from: usize) -> bool
-    ensures { λ r. ⌜ r ≡ zeros? (drop from (now (words .entry))) ⌝ }
-{
-    let mut i = from;
-    while i < words.len() {
-        if words[i] != 0 {
-            return false;
-        }
-        i += 1;
-    }
-    true
 }
 
 // The `size` words from `from` on are copied to the start.

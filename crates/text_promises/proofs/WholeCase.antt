@@ -15,7 +15,7 @@ use Rattle.meaning.specs.FrameTime.{frameTime}
 use Rattle.meaning.specs.Spans.{clip, join, update}
 use Rattle.spans.specs.Layout.{endAt, spansFrom, wordsOf, packed, zeros?}
 use Rattle.spans.specs.Stretch.{covered}
-use Rattle.spans.specs.StretchSound.{soundSpan?, soundFrom?, soundEndless?, soundSpans?, soundStretch?}
+use Rattle.sound_spans.specs.StretchSound.{soundSpan?, soundFrom?, soundEndless?, soundSpans?, soundStretch?}
 use Rattle.soundness.specs.Record.{stretchAt, nothingSeen}
 use Rattle.soundness.specs.Soundness.{every, soundRow?, zeroPast?, sound?}
 use Rattle.soundness.specs.Ready.{readyOf}

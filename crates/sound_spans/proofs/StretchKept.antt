@@ -10,10 +10,10 @@ use Rattle.meaning.specs.Spans.{Rising, reachedFrom, update}
 use Rattle.meaning.specs.Sound.{SoundSpans, lengthOf}
 use Rattle.meaning.specs.Figure.{figure}
 use Rattle.meaning.proofs.SoundKept.{update-rises, update-fits}
 use Rattle.spans.specs.declared.stretch.Held.{Held}
 use Rattle.spans.specs.Layout.{spansHeld, Packed}
 use Rattle.spans.proofs.LayoutLaws.{Storable, laid-read}
-use Rattle.spans.proofs.SoundTold.{SoundStretch, sound-stored}
+use Rattle.sound_spans.proofs.SoundTold.{SoundStretch, sound-stored}
 
 -- A stretch with the limits a and b, sound at `now`, and an event at t.
 module _

@@ -1,14 +1,14 @@
--- `spans::words::zeros_from` meets its contract. The loop: the answer from place i on is the whole answer; one turn is `zeros-next`. The
+-- `sound_spans::stretch::zeros_from` meets its contract. The loop: the answer from place i on is the whole answer; one turn is `zeros-next`. The
 -- measure is what is left of the length. Assumes nothing.
 use mathlib.Core.Path.{_≡_, refl, sym, _∙_}
 use Prim.Native.Nat.{_-_}
 use native.Mathlib.Omega.{arith}
 use borrow.Author.Tests.{eq-eqb, ne-eqb}
 use lib.ListN.{length, drop}
 use Rattle.spans.specs.Layout.{zeros?}
-use Rattle.spans.proofs.WordsLaws.{zeros-next, zeros-end}
-use Rattle.spans.proofs.words.zeros_from.Statement.{statement}
-use Rattle.spans.proofs.words.zeros_from.Tie as tie
+use Rattle.sound_spans.proofs.SoundSteps.{zeros-next, zeros-end}
+use Rattle.sound_spans.proofs.stretch.zeros_from.Statement.{statement}
+use Rattle.sound_spans.proofs.stretch.zeros_from.Tie as tie
 
 abbrev Inv-loop : tie.InvT-loop
 Inv-loop words from i₀ i = zeros? (drop from words) ≡ zeros? (drop i words)

@@ -1,10 +1,10 @@
--- `spans::stretch_sound::sound_span` meets its contract: each way out is told by the tests before it. Assumes nothing.
+-- `sound_spans::stretch::sound_span` meets its contract: each way out is told by the tests before it. Assumes nothing.
 use mathlib.Core.Path.{refl}
 use borrow.Author.Needs.{needs}
 use borrow.Author.Tests.{le-leb, lt-leb}
-use Rattle.spans.specs.StretchSound.{soundSpan?}
-use Rattle.spans.proofs.stretch_sound.sound_span.Statement.{statement}
-use Rattle.spans.proofs.stretch_sound.sound_span.Tie as tie
+use Rattle.sound_spans.specs.StretchSound.{soundSpan?}
+use Rattle.sound_spans.proofs.stretch.sound_span.Statement.{statement}
+use Rattle.sound_spans.proofs.stretch.sound_span.Tie as tie
 
 past-by-requires : tie.Need-past-by-requires
 past-by-requires c κs = search needs

@@ -3,20 +3,19 @@ use mathlib.Core.Bool.{Bool, true, false, _&&_}
 use mathlib.Core.List.{List, [], _∷_}
 use mathlib.Core.Path.{_≡_, refl}
 use Prim.Native.Nat.{ℕ, zero, suc, _+_, _*_, _-_, _≤_, _<_}
+use native.Mathlib.Numerals.{add-one}
 use native.Mathlib.Omega.{arith}
 use borrow.Author.Tests.{le-leb, lt-leb, eq-eqb, ne-eqb}
 use lib.Dec.{leb, eqb}
-use lib.ListN.{length, getD, drop}
+use lib.ListN.{length, getD, drop, drop-of-length-le}
+use lib.Seq.{drop-cons}
 use Rattle.meaning.specs.Interval.{End}
 use Rattle.meaning.specs.Spans.{Span, _to_}
+use Rattle.meaning.proofs.Truths.{and-false}
 use Rattle.spans.specs.declared.stretch.Held.{Held}
 use Rattle.spans.specs.Layout.{mark, endAt, spansFrom, spansHeld, zeros?}
-use Rattle.spans.specs.StretchSound.{soundSpan?, soundFrom?, soundEndless?, soundSpans?, soundStretch?}
+use Rattle.sound_spans.specs.StretchSound.{soundSpan?, soundFrom?, soundEndless?, soundSpans?, soundStretch?}
 use Rattle.spans.proofs.LayoutLaws.{end-cases, plain-end, spans-next, spans-none}
-
-and-false : (b : Bool) → (b && false) ≡ false
-and-false true = refl
-and-false false = refl
 
 third-fails : (b d e : Bool) → (b && d && false && e) ≡ false
 third-fails true true e = refl
@@ -97,3 +96,12 @@ module _ (words : List ℕ) (held : Held) (now latestFirst : ℕ) (latestLast : 
       → soundStretch? words held now latestFirst latestLast long ≡ (answer && zeros? (drop (2 * held .count) words))
   unfolding soundStretch?
   with-room h told = rw (le-leb (2 * held .count) (length words) h, told) refl
+
+-- The walk over the words after the spans.
+pub zeros-next : (words : List ℕ) (i : ℕ) → i < length words → zeros? (drop i words) ≡ (eqb (getD words i 0) 0 && zeros? (drop (i + 1) words))
+unfolding zeros?
+zeros-next words i h = rw (drop-cons words i 0 h, add-one i) refl
+
+pub zeros-end : (words : List ℕ) (i : ℕ) → length words ≤ i → zeros? (drop i words) ≡ true
+unfolding zeros?
+zeros-end words i h = rw (drop-of-length-le words h) refl

@@ -1,4 +1,4 @@
--- `spans::stretch_sound::ending` meets its contract. The loop: the answer from place i on is the whole answer, where what a span may begin
+-- `sound_spans::stretch::ending` meets its contract. The loop: the answer from place i on is the whole answer, where what a span may begin
 -- from is `former + gap`; one turn is `sound-next`. The measure is what is left of the count. Assumes nothing.
 use mathlib.Core.Bool.{_&&_}
 use mathlib.Core.Path.{_≡_, refl, sym, _∙_}
@@ -6,11 +6,11 @@ use Prim.Native.Nat.{_+_, _*_, _-_}
 use native.Mathlib.Nat.{add-zero, sub-zero}
 use native.Mathlib.Omega.{arith}
 use lib.ListN.{getD}
 use Rattle.spans.specs.Layout.{spansFrom, spansHeld}
-use Rattle.spans.specs.StretchSound.{soundSpan?, soundFrom?}
-use Rattle.spans.proofs.SoundSteps.{sound-next, sound-none}
-use Rattle.spans.proofs.stretch_sound.ending.Statement.{statement}
-use Rattle.spans.proofs.stretch_sound.ending.Tie as tie
+use Rattle.sound_spans.specs.StretchSound.{soundSpan?, soundFrom?}
+use Rattle.sound_spans.proofs.SoundSteps.{sound-next, sound-none}
+use Rattle.sound_spans.proofs.stretch.ending.Statement.{statement}
+use Rattle.sound_spans.proofs.stretch.ending.Tie as tie
 
 abbrev Inv-loop : tie.InvT-loop
 Inv-loop words time latest long count former₀ gap₀ i₀ former gap i =

@@ -1,4 +1,4 @@
--- `spans::stretch_sound::sound` meets its contract: where there is room, the answer is that of one of its two callees, and of the zeros.
+-- `sound_spans::stretch::sound` meets its contract: where there is room, the answer is that of one of its two callees, and of the zeros.
 -- Assumes nothing.
 use mathlib.Core.Bool.{Bool, _&&_}
 use mathlib.Core.Path.{_≡_, refl, sym}
@@ -6,11 +6,11 @@ use Prim.Native.Nat.{_*_}
 use native.Mathlib.Omega.{arith}
 use borrow.Author.Needs.{needs}
 use lib.ListN.{drop}
 use Rattle.spans.specs.Layout.{endAt, spansHeld, zeros?}
-use Rattle.spans.specs.StretchSound.{soundSpans?, soundStretch?}
-use Rattle.spans.proofs.SoundSteps.{marked-last, plain-last, no-room, with-room}
-use Rattle.spans.proofs.stretch_sound.sound.Statement.{statement}
-use Rattle.spans.proofs.stretch_sound.sound.Tie as tie
+use Rattle.sound_spans.specs.StretchSound.{soundSpans?, soundStretch?}
+use Rattle.sound_spans.proofs.SoundSteps.{marked-last, plain-last, no-room, with-room}
+use Rattle.sound_spans.proofs.stretch.sound.Statement.{statement}
+use Rattle.sound_spans.proofs.stretch.sound.Tie as tie
 
 by-callee : (c : tie.Else1) {answer : Bool} → (let args = c .before .before .args in
     answer ≡ soundSpans? (args .time) (args .latest-first) (endAt (args .latest-last)) (args .long) (spansHeld (args .words .now) (args .held))

@@ -1,15 +1,14 @@
 // Whether a stretch is sound, for any words at all, in one pass.
 
-use crate::stretch::Held;
-use crate::stretch::MARK;
-use crate::stretch::SPAN_WORDS;
-use crate::words::zeros_from;
+use spans::stretch::Held;
+use spans::stretch::MARK;
+use spans::stretch::SPAN_WORDS;
 use times::time::past_by;
 ghost use mathlib.Core.Path.{_≡_};
 ghost use Prim.Native.Nat.{_≤_, _<_, _+_, _*_};
-ghost use lib.ListN.{length};
-ghost use Rattle.spans.specs.Layout.{spanWords, mark, endAt, spansHeld};
-ghost use Rattle.spans.specs.StretchSound.{soundSpan?, soundFrom?, soundEndless?, soundStretch?};
+ghost use lib.ListN.{length, drop};
+ghost use Rattle.spans.specs.Layout.{spanWords, mark, endAt, spansHeld, zeros?};
+ghost use Rattle.sound_spans.specs.StretchSound.{soundSpan?, soundFrom?, soundEndless?, soundStretch?};
 
 // The spans held begin at the time or later and end at the latest last or before, a gap between each two, those that begin after the time with
 // their full length; where the latest last is the mark, one without end may be held that begins at the latest first or before. Unused words are 0.
@@ -107,4 +106,18 @@ fn sound_span(
         return past_by(first, long, last);
     }
     false
+}
+
+// Whether every word from `from` on is 0.
+fn zeros_from(words: &[u64], from: usize) -> bool
+    ensures { λ r. ⌜ r ≡ zeros? (drop from (now (words .entry))) ⌝ }
+{
+    let mut i = from;
+    while i < words.len() {
+        if words[i] != 0 {
+            return false;
+        }
+        i += 1;
+    }
+    true
 }

@@ -11,10 +11,10 @@ use Rattle.meaning.specs.Spans.{Span, _to_}
 use Rattle.meaning.specs.Sound.{SoundFrom, SoundEndless, SoundSpans}
 use Rattle.meaning.proofs.SpansLaws.{le-or-lt}
 use Rattle.meaning.proofs.Tells.{Tells, tells-leb, tells-eqb, tells-and, tells-or, tells-same}
 use Rattle.spans.specs.declared.stretch.Held.{Held}
 use Rattle.spans.specs.Layout.{mark, endAt, spansHeld, Laid, zeros?}
-use Rattle.spans.specs.StretchSound.{soundSpan?, soundFrom?, soundEndless?, soundSpans?, soundStretch?}
+use Rattle.sound_spans.specs.StretchSound.{soundSpan?, soundFrom?, soundEndless?, soundSpans?, soundStretch?}
 use Rattle.spans.proofs.LayoutLaws.{Storable, Stored, plain-end, laid-read, laid-fits, laid-zeros, read-laid}
 
 always-told : {A : Type 0} → A → Tells true A
 always-told a = record { sound = λ _. a; complete = λ _. tt }

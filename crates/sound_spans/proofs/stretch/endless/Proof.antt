@@ -1,13 +1,13 @@
--- `spans::stretch_sound::endless` meets its contract: none held, too many, or one, told by its two words. Assumes nothing.
+-- `sound_spans::stretch::endless` meets its contract: none held, too many, or one, told by its two words. Assumes nothing.
 use mathlib.Core.Path.{refl, sym}
 use native.Mathlib.Omega.{arith}
 use borrow.Author.Needs.{needs}
 use borrow.Author.Tests.{eq-eqb, ne-eqb, le-leb, lt-leb}
 use Rattle.spans.specs.Layout.{spansFrom}
-use Rattle.spans.specs.StretchSound.{soundEndless?}
-use Rattle.spans.proofs.SoundSteps.{endless-many, endless-one}
-use Rattle.spans.proofs.stretch_sound.endless.Statement.{statement}
-use Rattle.spans.proofs.stretch_sound.endless.Tie as tie
+use Rattle.sound_spans.specs.StretchSound.{soundEndless?}
+use Rattle.sound_spans.proofs.SoundSteps.{endless-many, endless-one}
+use Rattle.sound_spans.proofs.stretch.endless.Statement.{statement}
+use Rattle.sound_spans.proofs.stretch.endless.Tie as tie
 
 returns : tie.Need-returns
 unfolding spansFrom soundEndless?

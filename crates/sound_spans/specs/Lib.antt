@@ -1,0 +1,2 @@
+-- What a reader must believe of a sound stretch.
+pub mod StretchSound

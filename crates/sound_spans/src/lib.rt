@@ -1,0 +1,3 @@
+// Whether the spans of one row are sound in their words.
+
+pub mod stretch;
