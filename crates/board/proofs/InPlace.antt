@@ -45,10 +45,10 @@ use Rattle.soundness.specs.declared.record.Record.{Record}
 use Rattle.monitor.specs.Step.{Call, setupOf}
 use Rattle.soundness.proofs.record.Record as T
 use Rattle.soundness.proofs.record.Record.Laws as T′
-use Rattle.board.specs.declared.code.Coded.{Coded}
+use Rattle.board.specs.declared.coded.Coded.{Coded}
 use Rattle.board.specs.Left.{CallLeaves}
-use Rattle.board.proofs.code.Coded as J
-use Rattle.board.proofs.code.Coded.Laws as J′
+use Rattle.board.proofs.coded.Coded as J
+use Rattle.board.proofs.coded.Coded.Laws as J′
 
 -- The two signatures, the callee's and that of the call in place.
 abbrev pub judged-ended : Width → Ended

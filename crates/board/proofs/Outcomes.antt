@@ -1,5 +1,5 @@
--- Any two outcomes that the contract of a public function allows are the same: its code, and every word, field and number that it was lent. The
--- contracts of `muk_version` and `code` are that the answer equals a value, so for them `one-value` of `meaning` is the law.
+-- Any two outcomes that the contract of a public function allows are the same: its code, and every word, field and number that it was lent. That
+-- of `muk_version` is that the answer equals a value, so for it `one-value` of `meaning` is the law.
 use mathlib.Core.List.{List}
 use mathlib.Core.Path.{_≡_, ap}
 use Prim.Native.Nat.{ℕ}
@@ -8,7 +8,6 @@ use Rattle.soundness.specs.declared.record.Record.{Record}
 use Rattle.monitor.specs.Step.{Setup, Call}
 use Rattle.board.specs.Left.{Left, left, StartLeaves, CallLeaves}
 use Rattle.board.specs.Numbers.{Taken, checked, CheckLeaves, Timed, timed, TimeLeaves, LineGiven, line, LineLeaves}
-use Rattle.board.specs.Run.{Ran, ran, RunLeaves}
 
 -- The parts of two that equal the same.
 one-left : {x : Left} (r r′ : ℕ) (k k′ : Record) (s s′ : List ℕ) → left r k s ≡ x → left r′ k′ s′ ≡ x → (r ≡ r′) × (k ≡ k′) × (s ≡ s′)
@@ -46,11 +45,3 @@ read-frame-one-outcome text place counter mask r r′ n n′ c c′ m m′ p q =
       ap (λ (o : LineGiven). o .counter) e,
       ap (λ (o : LineGiven). o .mask) e,
     )
-
--- `run_events` and `run_frames`: the record, the store and the codes.
-pub run-one-outcome : (setup : Setup) (found : Record) (store codes : List ℕ) (calls : List Call) (k k′ : Record) (s s′ a a′ : List ℕ)
-    → RunLeaves setup found store codes calls k s a → RunLeaves setup found store codes calls k′ s′ a′
-    → (k ≡ k′) × (s ≡ s′) × (a ≡ a′)
-run-one-outcome setup found store codes calls k k′ s s′ a a′ p q =
-    let e : ran k s a ≡ ran k′ s′ a′ = one-value p q in
-    (ap (λ (r : Ran). r .left) e, ap (λ (r : Ran). r .store) e, ap (λ (r : Ran). r .codes) e)

@@ -17,10 +17,10 @@ use Rattle.monitor.specs.Start.{begin, startOf}
 use Rattle.monitor.specs.Event.{recordAfter}
 use Rattle.monitor.specs.Step.{Setup, Call, TimeReply, at, notAt, maskOf, verdict, clockMoved, momentOf, verdictOf, outcomeBy, refusalOf, stepOf}
 use Rattle.lines.specs.Read as Read
-use Rattle.board.specs.Code.{movedCode, codeOf, numberTold, IsRefusal}
+use Rattle.codes.specs.Code.{movedCode, codeOf, numberTold, IsRefusal}
 use Rattle.board.specs.Left.{startedOf, codedOf}
 use Rattle.board.specs.Numbers.{checkedOf, timedOf, lineBy, lineLeft}
-use Rattle.board.proofs.CodeLaws.{verdict-tag, moved-tag}
+use Rattle.codes.proofs.CodeLaws.{verdict-tag, moved-tag}
 
 -- What is accepted, a heartbeat or an event, tells no refusal.
 not-refused : {A : Type 0} (beat holds : Bool) → IsRefusal (codeOf (cond beat clockMoved (verdict holds))) → A

@@ -5,7 +5,7 @@ use Prim.Native.Nat.{ℕ}
 use Rattle.soundness.specs.declared.record.Record.{Record}
 use Rattle.monitor.specs.Start.{Beginning, startOf}
 use Rattle.monitor.specs.Step.{Setup, Call, Outcome, stepOf}
-use Rattle.board.specs.Code.{codeOf, refusedCode}
+use Rattle.codes.specs.Code.{codeOf, refusedCode}
 
 pub record Left : Type 0 where
   pub code : ℕ

@@ -8,7 +8,7 @@ use Rattle.rules.specs.Table as Table
 use Rattle.monitor.specs.Step.{TimeReply, at, notAt, frameTimeOf}
 use Rattle.lines.specs.Read as Read
 use Rattle.lines.specs.Frame.{readFrame}
-use Rattle.board.specs.Code.{refusalCode}
+use Rattle.codes.specs.Code.{refusalCode}
 
 -- "refusals 1 to 3, or 0, and the row count and the need in words are written".
 pub record Taken : Type 0 where

@@ -1,7 +1,7 @@
 // One event or heartbeat for C. The record stays where it is and is changed there.
 
-use crate::code::Coded;
-use crate::code::code;
+use crate::coded::Coded;
+use codes::code::code;
 use monitor::step;
 use soundness::record::Record;
 ghost use Rattle.monitor.specs.Step as Step;
@@ -26,13 +26,7 @@ pub extern "C" fn muk_event(
 }
 
 // The same with the record handed in and back.
-pub(crate) fn event_coded(
-    table: &[u32],
-    store: &mut [u64],
-    found: Record,
-    time: u64,
-    mask: u32,
-) -> Coded
+pub fn event_coded(table: &[u32], store: &mut [u64], found: Record, time: u64, mask: u32) -> Coded
     ensures { λ r. ⌜ CallLeaves (setupOf (now (table .entry))) (now (store .entry)) found (Step.event time mask)
         (r .code) (r .record) (now (store .exit)) ⌝ }
 {

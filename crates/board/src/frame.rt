@@ -1,7 +1,7 @@
 // One frame for C: an event or a heartbeat at the time that its counter shows. The record stays where it is and is changed there.
 
-use crate::code::Coded;
-use crate::code::code;
+use crate::coded::Coded;
+use codes::code::code;
 use monitor::step;
 use soundness::record::Record;
 ghost use Rattle.monitor.specs.Step as Step;
@@ -26,7 +26,7 @@ pub extern "C" fn muk_frame(
 }
 
 // The same with the record handed in and back.
-pub(crate) fn frame_coded(
+pub fn frame_coded(
     table: &[u32],
     store: &mut [u64],
     found: Record,

@@ -1,6 +1,6 @@
 // The time of a frame for C.
 
-use crate::code::refusal_code;
+use codes::code::refusal_code;
 use monitor::answer::Timed;
 use monitor::frame_time;
 ghost use Rattle.board.specs.Numbers.{TimeLeaves};

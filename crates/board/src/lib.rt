@@ -2,13 +2,11 @@
 // calls. No struct goes by value in or out of an exported function, so that the calling convention is the same on every processor. A single number
 // behind a pointer is written only where the call gives it.
 
-mod call;
-pub mod code;
+pub mod coded;
 pub mod event;
 pub mod frame;
 pub mod frame_time;
 pub mod line;
-pub mod run;
 pub mod start;
 pub mod table;
 pub mod version;

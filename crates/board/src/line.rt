@@ -1,6 +1,6 @@
 // The line at a place of a text for C.
 
-use crate::code::refusal_code;
+use codes::code::refusal_code;
 use lines::frame;
 use lines::frame::FrameFound;
 ghost use Rattle.board.specs.Numbers.{LineLeaves};

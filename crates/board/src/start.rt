@@ -1,7 +1,7 @@
 // The start for C. The record is written where it stands.
 
-use crate::code::Coded;
-use crate::code::refusal_code;
+use crate::coded::Coded;
+use codes::code::refusal_code;
 use monitor::answer::StartAnswer;
 use monitor::start;
 use soundness::record::Record;

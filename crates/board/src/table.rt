@@ -1,6 +1,6 @@
 // The table check for C.
 
-use crate::code::refusal_code;
+use codes::code::refusal_code;
 use rules::table;
 use rules::table::Checked;
 ghost use Rattle.board.specs.Numbers.{CheckLeaves};

@@ -7,7 +7,7 @@ use Rattle.monitor.specs.Step.{setupOf, Call, Reply, stepOf}
 use Rattle.promises.specs.Stream.{State, call, next, after, started}
 use Rattle.promises.specs.LineTimes.{replies}
 use Rattle.promises.proofs.StreamLaws.{after-append}
-use Rattle.board.specs.Code.{codeOf}
+use Rattle.codes.specs.Code.{codeOf}
 use Rattle.board.specs.Left.{Left, codedOf, StartLeaves, CallLeaves}
 use Rattle.board_promises.specs.Made.{Made, none, more}
 use Rattle.board_promises.specs.Calls.{standing, AsStream, CallsAreTheStream}

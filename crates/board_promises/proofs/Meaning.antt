@@ -18,7 +18,7 @@ use Rattle.promises.specs.Stream.{Starts, Keeps, Beats, clock, longer, outcome}
 use Rattle.promises.specs.Verdicts.{Answered, judgedFormula}
 use Rattle.promises.proofs.StreamLaws.{beats-told}
 use Rattle.promises.proofs.Verdicts.{truths-are-meaning, verdict-is-meaning}
-use Rattle.board.specs.Code.{movedCode, codeOf, refusalCode}
+use Rattle.codes.specs.Code.{movedCode, codeOf, refusalCode}
 use Rattle.board.specs.Left.{Left}
 use Rattle.board_promises.specs.Meaning.{CodeMeant, CodesTellTheMeaning}
 use Rattle.board_promises.proofs.Starting.{start-is-the-streams}

@@ -7,8 +7,8 @@ use Rattle.soundness.specs.declared.record.Record.{Record}
 use Rattle.monitor.specs.Step.{Setup, Call}
 use Rattle.promises.specs.Refusing as Refusing
 use Rattle.promises.specs.Refusing.{TableRefused, StartRefused, CallRefused}
-use Rattle.board.specs.Code.{verdictRoom, refusalCode, IsRefusal}
-use Rattle.board.proofs.CodeLaws.{Numbered, refusal-above, refusal-told}
+use Rattle.codes.specs.Code.{verdictRoom, refusalCode, IsRefusal}
+use Rattle.codes.proofs.CodeLaws.{Numbered, refusal-above, refusal-told}
 
 table-numbered : {table : List ℕ} {fault : Refused} → TableRefused table fault → Numbered fault
 table-numbered (Refusing.one wrong) = (omega arith, omega arith)

@@ -11,9 +11,9 @@ use Rattle.monitor.specs.Step.{setupOf, Call, Reply, stepOf}
 use Rattle.promises.specs.Conditions.{RecordRight}
 use Rattle.promises.specs.Refusing.{CallRefused, seven}
 use Rattle.promises.proofs.Refusing.{refused-exactly}
-use Rattle.board.specs.Code.{codeOf, refusalCode, IsRefusal}
+use Rattle.codes.specs.Code.{codeOf, refusalCode, IsRefusal}
 use Rattle.board.specs.Left.{Left, CallLeaves}
-use Rattle.board.proofs.CodeLaws.{refusal-only}
+use Rattle.codes.proofs.CodeLaws.{refusal-only}
 use Rattle.board.proofs.RefusedLaws.{refused-call-stays}
 use Rattle.board_promises.specs.Refusing.{RefusedCallLeavesAll, Damaged, DamagedIsRefused}
 use Rattle.board_promises.proofs.NumberLaws.{call-told}

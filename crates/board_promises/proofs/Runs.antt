@@ -8,10 +8,10 @@ use lib.Seq.{getD-take}
 use Rattle.monitor.specs.Step.{setupOf, Call}
 use Rattle.promises.specs.Stream.{State, call, next, after}
 use Rattle.promises.specs.LineTimes.{replies}
-use Rattle.board.specs.Code.{codeOf}
-use Rattle.board.specs.Run as Run
-use Rattle.board.specs.Run.{callsOf, Ran, ran, runOf}
-use Rattle.board.proofs.RunLaws.{calls-end}
+use Rattle.codes.specs.Code.{codeOf}
+use Rattle.call_runs.specs.Run as Run
+use Rattle.call_runs.specs.Run.{callsOf, Ran, ran, runOf}
+use Rattle.call_runs.proofs.RunLaws.{calls-end}
 use Rattle.board_promises.specs.Calls.{standing}
 use Rattle.board_promises.specs.Runs.{callsMade, RunsAreTheStream}
 

@@ -14,7 +14,7 @@ use Rattle.monitor.specs.Start.{begin, startOf}
 use Rattle.promises.specs.Conditions.{Ready}
 use Rattle.promises.specs.Refusing.{StartRefused}
 use Rattle.promises.proofs.TableRefusals.{start-refuses, start-passes, start-decided}
-use Rattle.board.specs.Code.{verdictRoom, refusalCode}
+use Rattle.codes.specs.Code.{verdictRoom, refusalCode}
 use Rattle.board.specs.Left.{Left, StartLeaves}
 use Rattle.board_promises.specs.Starting.{StartTold, StartIsTheStreams}
 use Rattle.board_promises.proofs.NumberLaws.{start-above}

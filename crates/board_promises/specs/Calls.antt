@@ -7,7 +7,7 @@ use Rattle.soundness.specs.declared.record.Record.{Record}
 use Rattle.monitor.specs.Step.{Call}
 use Rattle.promises.specs.Stream.{State, after, started}
 use Rattle.promises.specs.LineTimes.{replies}
-use Rattle.board.specs.Code.{codeOf}
+use Rattle.codes.specs.Code.{codeOf}
 use Rattle.board.specs.Left.{StartLeaves}
 use Rattle.board_promises.specs.Made.{Made}
 

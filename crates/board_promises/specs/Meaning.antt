@@ -12,7 +12,7 @@ use Rattle.soundness.specs.declared.record.Record.{Record}
 use Rattle.monitor.specs.Step.{setupOf, Call, timeOf}
 use Rattle.promises.specs.Stream.{Keeps, Beats, clock, longer}
 use Rattle.promises.specs.Verdicts.{judgedFormula}
-use Rattle.board.specs.Code.{verdictRoom, movedCode, refusalCode, numberTold, IsRefusal}
+use Rattle.codes.specs.Code.{verdictRoom, movedCode, refusalCode, numberTold, IsRefusal}
 use Rattle.board.specs.Left.{StartLeaves, CallLeaves}
 use Rattle.board_promises.specs.Made.{Made}
 

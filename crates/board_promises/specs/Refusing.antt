@@ -12,7 +12,7 @@ use Rattle.soundness.specs.declared.record.Record.{Record}
 use Rattle.monitor.specs.Step.{setupOf, Call}
 use Rattle.promises.specs.Conditions.{Ready}
 use Rattle.promises.specs.Refusing.{CallRefused}
-use Rattle.board.specs.Code.{refusalCode, IsRefusal}
+use Rattle.codes.specs.Code.{refusalCode, IsRefusal}
 use Rattle.board.specs.Left.{CallLeaves}
 
 -- A code that tells a number is that of the refusal which the table of refusals names, and no other call has such a code.

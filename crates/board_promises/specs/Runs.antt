@@ -8,8 +8,8 @@ use Rattle.soundness.specs.declared.record.Record.{Record}
 use Rattle.monitor.specs.Step.{setupOf, Call}
 use Rattle.promises.specs.Stream.{State, after}
 use Rattle.promises.specs.LineTimes.{replies}
-use Rattle.board.specs.Code.{codeOf}
-use Rattle.board.specs.Run.{callsOf, RunLeaves}
+use Rattle.codes.specs.Code.{codeOf}
+use Rattle.call_runs.specs.Run.{callsOf, RunLeaves}
 use Rattle.board_promises.specs.Calls.{standing}
 
 -- How many calls are made.

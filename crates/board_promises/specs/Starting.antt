@@ -12,7 +12,7 @@ use Rattle.soundness.specs.declared.record.Record.{Record}
 use Rattle.soundness.specs.Record.{nothingSeen}
 use Rattle.promises.specs.Refusing.{StartRefused}
 use Rattle.promises.specs.Stream.{Starts, started}
-use Rattle.board.specs.Code.{refusalCode}
+use Rattle.codes.specs.Code.{refusalCode}
 use Rattle.board.specs.Left.{StartLeaves}
 
 pub record StartTold (table store : List ℕ) (code : ℕ) (kept : Record) (words : List ℕ) : Type 0 where

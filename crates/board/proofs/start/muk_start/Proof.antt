@@ -46,10 +46,10 @@ use denote.Triple.Clauses.{ensured, lasts}
 use Rattle.soundness.specs.declared.record.Record.{Record}
 use Rattle.soundness.proofs.record.Record as T
 use Rattle.soundness.proofs.record.Record.Laws as T′
-use Rattle.board.specs.declared.code.Coded.{Coded}
+use Rattle.board.specs.declared.coded.Coded.{Coded}
 use Rattle.board.specs.Left.{StartLeaves}
-use Rattle.board.proofs.code.Coded as J
-use Rattle.board.proofs.code.Coded.Laws as J′
+use Rattle.board.proofs.coded.Coded as J
+use Rattle.board.proofs.coded.Coded.Laws as J′
 use Rattle.board.proofs.start.start_coded as coded
 use Rattle.board.proofs.start.start_coded.Symbol as callee
 use Rattle.board.proofs.start.start_coded.Met as callee-met

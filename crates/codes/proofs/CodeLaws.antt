@@ -1,0 +1,70 @@
+-- A code tells a verdict, a moved clock and a refusal apart, the refusal's number and its row. Bit 31 is a moved clock's alone; bits 24 to 30 are 0.
+use mathlib.Core.Bool.{Bool, true, false}
+use mathlib.Core.Logic.{_↔_}
+use mathlib.Core.Path.{_≡_, refl, ap}
+use native.Mathlib.Omega.{arith}
+use Prim.Native.Nat.{_*_, _≤_, _<_, _%_}
+use Rattle.refusals.specs.Refusals.{Refused, refused, rowIn}
+use Rattle.refusals.specs.declared.refusal.Refusal.{Refusal}
+use Rattle.refusals.specs.declared.refusal.Refusal.the-variants.{Length, Row, Limits, Store, Earlier, Late, Unsound, BadLine, BadSum}
+use Rattle.monitor.specs.Step.{Reply, verdict, clockMoved, refusal}
+use Rattle.codes.specs.Code.{verdictRoom, numberRoom, movedCode, refusalCode, codeOf, numberTold, IsRefusal}
+
+-- A number that fits its eight bits and is not 0. Every refusal has one.
+abbrev pub Numbered : Refused → Type 0
+Numbered fault = (0 < fault .number) × (fault .number < numberRoom)
+
+pub numbered : (r : Refusal) → Numbered (refused r)
+numbered Length = (omega arith, omega arith)
+numbered (Row row) = (omega arith, omega arith)
+numbered (Limits row) = (omega arith, omega arith)
+numbered Store = (omega arith, omega arith)
+numbered Earlier = (omega arith, omega arith)
+numbered Late = (omega arith, omega arith)
+numbered Unsound = (omega arith, omega arith)
+numbered BadLine = (omega arith, omega arith)
+numbered BadSum = (omega arith, omega arith)
+
+-- A verdict and a moved clock tell the number 0; a refusal tells its own, and its row in the bits below.
+pub verdict-tag : (holds : Bool) → numberTold (codeOf (verdict holds)) ≡ 0
+verdict-tag true = omega arith
+verdict-tag false = omega arith
+
+pub moved-tag : numberTold movedCode ≡ 0
+moved-tag = omega arith
+
+pub refusal-tag : (fault : Refused) → Numbered fault → numberTold (refusalCode fault) ≡ fault .number
+refusal-tag fault fits = omega arith
+
+pub refusal-row : (fault : Refused) → rowIn fault < verdictRoom → refusalCode fault % verdictRoom ≡ rowIn fault
+refusal-row fault small = omega arith
+
+-- A verdict is below 65,536; a refusal's code is not, and its bits above 23 are 0.
+pub verdict-small : (holds : Bool) → codeOf (verdict holds) < verdictRoom
+verdict-small true = omega arith
+verdict-small false = omega arith
+
+pub refusal-above : (fault : Refused) → Numbered fault → verdictRoom ≤ refusalCode fault
+refusal-above fault fits = omega arith
+
+pub refusal-small : (fault : Refused) → Numbered fault → refusalCode fault < numberRoom * verdictRoom
+refusal-small fault fits = omega arith
+
+-- So the code tells a refusal, and a moved clock.
+pub refusal-told : (fault : Refused) → Numbered fault → IsRefusal (refusalCode fault)
+refusal-told fault fits = omega arith
+
+pub refusal-only : (reply : Reply) → IsRefusal (codeOf reply) → (fault : Refused) × (reply ≡ refusal fault)
+refusal-only (verdict true) told = absurd (omega arith)
+refusal-only (verdict false) told = absurd (omega arith)
+refusal-only clockMoved told = absurd (omega arith)
+refusal-only (refusal fault) told = (fault, refl)
+
+pub moved-exactly : (reply : Reply) → ((fault : Refused) → reply ≡ refusal fault → Numbered fault)
+    → (codeOf reply ≡ movedCode) ↔ (reply ≡ clockMoved)
+moved-exactly (verdict true) fits = (λ is. absurd (omega arith), λ same. ap codeOf same)
+moved-exactly (verdict false) fits = (λ is. absurd (omega arith), λ same. ap codeOf same)
+moved-exactly clockMoved fits = (λ is. refl, λ same. refl)
+moved-exactly (refusal fault) fits =
+    let small : refusalCode fault < numberRoom * verdictRoom = refusal-small fault (fits fault refl) in
+    (λ is. absurd (omega arith), λ same. ap codeOf same)

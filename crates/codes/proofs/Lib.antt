@@ -1,0 +1,2 @@
+-- Laws of codes.
+pub mod CodeLaws

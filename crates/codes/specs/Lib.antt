@@ -1,0 +1,2 @@
+-- What a reader must believe of codes.
+pub mod Code

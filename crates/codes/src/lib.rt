@@ -1,0 +1,3 @@
+// The answers of calls as numbers, as C gets them.
+
+pub mod code;
