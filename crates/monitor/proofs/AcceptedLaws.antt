@@ -15,7 +15,7 @@ use Rattle.meaning.specs.Spans.{Span, Rising, reachedFrom, update}
 use Rattle.meaning.specs.Sound.{lengthOf}
 use Rattle.meaning.specs.Figure.{figure}
 use Rattle.spans.specs.Layout.{spanWords}
-use Rattle.rules.specs.Kinds.{Rule, plain, stretch}
+use Rattle.kinds.specs.Kinds.{Rule, plain, stretch}
 use Rattle.rules.specs.Rows.{rowsOf, numbersAt, ruleOf, keptBy, fedBy}
 use Rattle.rules.specs.Stretches.{spansSaid, width, offset}
 use Rattle.refusals.specs.Refusals.{Refused, _orElse_}

@@ -8,12 +8,12 @@ use native.Mathlib.Omega.{arith}
 use lib.ListN.{length, take-append-drop}
 use Rattle.meaning.specs.Interval.{endOf}
 use Rattle.meaning.specs.Spans.{Span, reachedFrom}
-use Rattle.rules.specs.Kinds.{Rule, plain, stretch, hasStretch, ownsStretch, columnsOf}
+use Rattle.kinds.specs.Kinds.{Rule, plain, stretch, hasStretch, ownsStretch, columnsOf}
+use Rattle.kinds.specs.declared.stretch.Stretch.{Stretch}
+use Rattle.kinds.proofs.KindsLaws.{owned-rule}
 use Rattle.rules.specs.Rows.{ruleOf, keptBy, feeder, taken}
 use Rattle.rules.specs.Stretches.{spansOf, spansSaid, width}
 use Rattle.rules.specs.declared.numbers.Numbers.{Numbers}
-use Rattle.rules.specs.declared.stretch.Stretch.{Stretch}
-use Rattle.rules.proofs.KindsLaws.{owned-rule}
 use Rattle.meaning.proofs.Truths.{no-truth}
 use Rattle.spans.specs.declared.stretch.Held.{Held}
 use Rattle.spans.specs.declared.stretch.Updated.{Updated}

@@ -3,7 +3,7 @@ use Prim.Native.Nat.{ℕ, _≤_, _<_}
 use native.Mathlib.Omega.{arith}
 use Rattle.rules.specs.Limits.{rowLimit}
 use Rattle.rules.specs.declared.numbers.Numbers.{Numbers}
-use Rattle.rules.proofs.KindsLaws.{x-and-y-below}
+use Rattle.rules.proofs.RowFitsLaws.{x-and-y-below}
 use Rattle.rules.proofs.PassedLaws.{Good}
 
 pub good-listed : (r : ℕ) (row : Numbers) → r ≤ rowLimit → Good r row → (row .x < rowLimit) × (row .y < rowLimit)

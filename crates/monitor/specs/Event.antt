@@ -8,8 +8,8 @@ use Rattle.meaning.specs.Interval.{endOf}
 use Rattle.meaning.specs.Computed.{within?, bitSet?}
 use Rattle.meaning.specs.Heartbeat.{heartbeat?}
 use Rattle.meaning.specs.Spans.{Span, reachedFrom, clip, update}
-use Rattle.rules.specs.Kinds.{Rule, plain, stretch}
-use Rattle.rules.specs.declared.plain.Plain.the-variants as Plain
+use Rattle.kinds.specs.Kinds.{Rule, plain, stretch}
+use Rattle.kinds.specs.declared.plain.Plain.the-variants as Plain
 use Rattle.rules.specs.Rows.{rowsOf, numbersAt, ruleOf, keptBy, taken, fedBy}
 use Rattle.rules.specs.Stretches.{width, offset}
 use Rattle.rules.specs.declared.numbers.Numbers.{Numbers}

@@ -3,14 +3,14 @@
 
 use crate::truths::byte_of;
 use crate::truths::truth_at;
+use kinds::plain::Plain;
+use kinds::stretch::Feed;
+use kinds::stretch::Keep;
 use rules::limits::ROW_LIMIT;
 use rules::numbers::Numbers;
 use rules::numbers::numbers_at;
 use rules::plain;
-use rules::plain::Plain;
 use rules::stretch;
-use rules::stretch::Feed;
-use rules::stretch::Keep;
 use spans::reached::last_reached;
 use spans::stretch::Held;
 use spans::stretch::Updated;
@@ -24,8 +24,8 @@ ghost use mathlib.Core.Path.{_≡_};
 ghost use Prim.Native.Nat.{_≤_, _<_};
 ghost use Rattle.meaning.specs.Interval.{endOf};
 ghost use Rattle.meaning.specs.Spans.{Span, _to_, reachedFrom};
+ghost use Rattle.kinds.specs.Kinds.{ownsStretch};
 ghost use Rattle.rules.specs.Limits.{rowLimit};
-ghost use Rattle.rules.specs.Kinds.{ownsStretch};
 ghost use Rattle.rules.specs.Rows.{rowsOf, ruleOf, keptBy, feeder, taken};
 ghost use Rattle.spans.specs.Layout.{endAt};
 ghost use Rattle.times.specs.Times.{timeLimit};

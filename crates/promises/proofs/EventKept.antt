@@ -18,17 +18,17 @@ use Rattle.meaning.proofs.Tells.{Tells, tells-eqb, tells-not, tells-and, tells-
 use Rattle.meaning.proofs.FormulaLaws.{tells-within}
 use Rattle.meaning.proofs.HistoryLaws.{NoLater, no-later-on}
 use Rattle.meaning.proofs.RunsLaws.{runs-event, runs-tell}
-use Rattle.rules.specs.Kinds.{Rule, plain, stretch}
-use Rattle.rules.specs.declared.plain.Plain.{Plain}
-use Rattle.rules.specs.declared.plain.Plain.the-variants as Plain
+use Rattle.kinds.specs.Kinds.{Rule, plain, stretch}
+use Rattle.kinds.specs.declared.plain.Plain.{Plain}
+use Rattle.kinds.specs.declared.plain.Plain.the-variants as Plain
+use Rattle.kinds.specs.declared.stretch.Keep.{Keep}
+use Rattle.kinds.specs.declared.stretch.Keep.the-variants.{Unasked, WhileX, WhileY}
+use Rattle.kinds.specs.declared.stretch.Stretch.{Stretch}
 use Rattle.rules.specs.Rows.{rowsOf, numbersAt, ruleOf, keptBy, feeder, taken, fedBy}
 use Rattle.rules.specs.Stretches.{needOf}
 use Rattle.rules.specs.RowFormula.{sinceOf, formula, formulaOf}
 use Rattle.rules.specs.declared.numbers.Numbers.{Numbers}
-use Rattle.rules.specs.declared.stretch.Keep.{Keep}
-use Rattle.rules.specs.declared.stretch.Keep.the-variants.{Unasked, WhileX, WhileY}
-use Rattle.rules.specs.declared.stretch.Stretch.{Stretch}
-use Rattle.rules.proofs.KindsLaws.{PlainNames, KeeperLower, Names}
+use Rattle.rules.proofs.RowFitsLaws.{PlainNames, KeeperLower, Names}
 use Rattle.rules.proofs.PassedLaws.{range-order, passed-formula}
 use Rattle.times.specs.Times.{timeLimit}
 use Rattle.soundness.specs.Record.{wasSeen, truthAt, clockOf, eventTime}

@@ -20,12 +20,12 @@ use Rattle.meaning.proofs.Tells.{tells-decided, told-true}
 use Rattle.meaning.proofs.FormulaLaws.{holds-told}
 use Rattle.meaning.proofs.RunsLaws.{runs-only}
 use Rattle.meaning.proofs.FigureLaws.{pulseTime, pulses, pulse-time, pulses-last, filling, figure-is-filled}
-use Rattle.rules.specs.Kinds.{stretch, xSinceY, onceX, alwaysX, kindAt}
+use Rattle.kinds.specs.Kinds.{stretch, xSinceY, onceX, alwaysX, kindAt}
+use Rattle.kinds.specs.declared.stretch.Stretch.{Stretch}
 use Rattle.rules.specs.Rows.{rowsOf, numbersAt, ruleOf}
 use Rattle.rules.specs.Stretches.{needOf}
 use Rattle.rules.specs.RowFormula.{below, formulaOf}
 use Rattle.rules.specs.Table.{lengthPasses, rowPasses, limitsPass, faultOf, firstFault, passed, checkOf}
-use Rattle.rules.specs.declared.stretch.Stretch.{Stretch}
 use Rattle.rules.proofs.PassedLaws.{range-cases, range-order}
 use Rattle.times.specs.Times.{timeLimit}
 use Rattle.soundness.specs.Ready.{readyOf}

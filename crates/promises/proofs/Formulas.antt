@@ -2,10 +2,10 @@
 use mathlib.Core.List.{List}
 use mathlib.Core.Path.{_≡_}
 use Prim.Native.Nat.{ℕ, _<_}
-use Rattle.rules.specs.Kinds.{kindAt}
+use Rattle.kinds.specs.Kinds.{kindAt}
 use Rattle.rules.specs.Rows.{rowsOf, numbersAt}
 use Rattle.rules.specs.RowFormula.{madeOf, formulaOf}
-use Rattle.rules.proofs.KindsLaws.{row-fits-told, names-lower}
+use Rattle.rules.proofs.RowFitsLaws.{row-fits-told, names-lower}
 use Rattle.rules.proofs.RowFormulaLaws.{formula-made}
 use Rattle.promises.specs.Conditions.{TableRight}
 use Rattle.promises.specs.Formulas.{FormulasByKind}

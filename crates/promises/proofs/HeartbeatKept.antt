@@ -11,7 +11,7 @@ use Rattle.meaning.specs.History.{History}
 use Rattle.meaning.specs.Heartbeat.{heartbeat?}
 use Rattle.meaning.specs.Spans.{Span, clip}
 use Rattle.meaning.proofs.RunsLaws.{runs-later}
-use Rattle.rules.specs.Kinds.{Rule, plain, stretch}
+use Rattle.kinds.specs.Kinds.{Rule, plain, stretch}
 use Rattle.rules.specs.Rows.{rowsOf, numbersAt, ruleOf}
 use Rattle.times.specs.Times.{timeLimit}
 use Rattle.soundness.specs.Record.{clockOf}

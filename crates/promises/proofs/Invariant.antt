@@ -8,7 +8,7 @@ use lib.ListN.{length}
 use Rattle.meaning.specs.History.{History, lastTime}
 use Rattle.meaning.specs.Spans.{Span}
 use Rattle.meaning.proofs.HistoryLaws.{NoLater}
-use Rattle.rules.specs.Kinds.{Rule, plain, stretch}
+use Rattle.kinds.specs.Kinds.{Rule, plain, stretch}
 use Rattle.rules.specs.Rows.{rowsOf, numbersAt, ruleOf}
 use Rattle.rules.specs.Stretches.{width}
 use Rattle.rules.specs.RowFormula.{formulaOf}

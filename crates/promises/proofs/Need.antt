@@ -3,7 +3,7 @@ use mathlib.Core.List.{List}
 use mathlib.Core.Logic.{⊎-elim}
 use Prim.Native.Nat.{ℕ, zero, suc}
 use native.Mathlib.Nat.{add-zero}
-use Rattle.rules.specs.Kinds.{kindAt}
+use Rattle.kinds.specs.Kinds.{kindAt}
 use Rattle.rules.specs.Rows.{rowsOf, numbersAt}
 use Rattle.rules.specs.Stretches.{offset}
 use Rattle.rules.specs.declared.numbers.Numbers.{Numbers}

@@ -16,12 +16,12 @@ use Rattle.meaning.proofs.SpansLaws.{clip-in, clip-rising, Under}
 use Rattle.meaning.proofs.SoundLaws.{sound-rising}
 use Rattle.meaning.proofs.SoundKept.{update-rises}
 use Rattle.meaning.proofs.Tells.{Tells, tells-not}
-use Rattle.rules.specs.Kinds.{stretch}
+use Rattle.kinds.specs.Kinds.{stretch}
+use Rattle.kinds.specs.declared.stretch.Stretch.{Stretch}
 use Rattle.rules.specs.Rows.{rowsOf, numbersAt, ruleOf, keptBy, feeder, taken, fedBy}
 use Rattle.rules.specs.Stretches.{needOf}
 use Rattle.rules.specs.declared.numbers.Numbers.{Numbers}
-use Rattle.rules.specs.declared.stretch.Stretch.{Stretch}
-use Rattle.rules.proofs.KindsLaws.{Names}
+use Rattle.rules.proofs.RowFitsLaws.{Names}
 use Rattle.rules.proofs.RowFormulaLaws.{kept-same}
 use Rattle.rules.proofs.PassedLaws.{InRange, range-order, Passed, passed-gives}
 use Rattle.spans.proofs.CoverLaws.{covered-told}

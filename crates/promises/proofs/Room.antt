@@ -5,11 +5,11 @@ use mathlib.Core.Path.{_≡_, ap}
 use Prim.Native.Nat.{ℕ, _≤_, _<_}
 use native.Mathlib.Omega.{arith}
 use lib.ListN.{length}
-use Rattle.rules.specs.Kinds.{stretch}
+use Rattle.kinds.specs.Kinds.{stretch}
 use Rattle.refusals.specs.Refusals.{refused, numberOf}
+use Rattle.kinds.specs.declared.stretch.Stretch.{Stretch}
 use Rattle.rules.specs.Rows.{rowsOf, numbersAt, ruleOf}
 use Rattle.rules.specs.Stretches.{spansOf}
-use Rattle.rules.specs.declared.stretch.Stretch.{Stretch}
 use Rattle.refusals.specs.declared.refusal.Refusal.{Refusal}
 use Rattle.refusals.specs.declared.refusal.Refusal.the-variants.{Store, Unsound, Earlier, Late}
 use Rattle.meaning.specs.Spans.{Span}

@@ -10,7 +10,7 @@ use Rattle.meaning.specs.Heartbeat.{heartbeat?}
 use Rattle.meaning.specs.Spans.{Span}
 use Rattle.meaning.specs.Sound.{lengthOf}
 use Rattle.meaning.proofs.SoundLaws.{none-sound}
-use Rattle.rules.specs.Kinds.{Rule, plain, stretch}
+use Rattle.kinds.specs.Kinds.{Rule, plain, stretch}
 use Rattle.rules.specs.Rows.{rowsOf, numbersAt, ruleOf, keptBy, fedBy}
 use Rattle.rules.specs.Stretches.{needOf}
 use Rattle.rules.specs.declared.numbers.Numbers.{Numbers}

@@ -11,7 +11,7 @@ use Rattle.meaning.proofs.HistoryLaws.{NoLater}
 use Rattle.meaning.proofs.SoundLaws.{none-sound, runs-sound}
 use Rattle.meaning.proofs.RunsLaws.{runs-only, runs-none}
 use Rattle.meaning.proofs.FigureLaws.{figure-is-enough}
-use Rattle.rules.specs.Kinds.{Rule, plain, stretch}
+use Rattle.kinds.specs.Kinds.{Rule, plain, stretch}
 use Rattle.rules.specs.Rows.{numbersAt}
 use Rattle.rules.specs.Stretches.{spansSaid}
 use Rattle.rules.proofs.PassedLaws.{InRange, range-order}

@@ -10,11 +10,11 @@ use Rattle.meaning.specs.History.{History, lastTime}
 use Rattle.meaning.specs.Formula.{Formula, Holds}
 use Rattle.meaning.specs.Spans.{Span, In}
 use Rattle.meaning.proofs.RunsLaws.{runs-tell}
-use Rattle.rules.specs.Kinds.{stretch}
+use Rattle.kinds.specs.Kinds.{stretch}
+use Rattle.kinds.specs.declared.stretch.Stretch.{Stretch}
 use Rattle.rules.specs.Rows.{rowsOf, numbersAt, ruleOf, keptBy, taken, fedBy}
 use Rattle.rules.specs.Stretches.{needOf}
 use Rattle.rules.specs.RowFormula.{sinceOf, formulaOf}
-use Rattle.rules.specs.declared.stretch.Stretch.{Stretch}
 use Rattle.rules.proofs.PassedLaws.{passed-formula}
 use Rattle.soundness.specs.Record.{truthAt}
 use Rattle.promises.specs.Stream.{State, state, history, clock}

@@ -12,8 +12,8 @@ use Rattle.meaning.proofs.HistoryLaws.{NoLater}
 use Rattle.meaning.proofs.SpansLaws.{le-or-lt}
 use Rattle.meaning.proofs.RunsLaws.{runs-none}
 use Rattle.meaning.proofs.SoundLaws.{none-sound}
+use Rattle.kinds.specs.Kinds.{Rule, plain, stretch}
 use Rattle.rules.specs.Limits.{rowLimit}
-use Rattle.rules.specs.Kinds.{Rule, plain, stretch}
 use Rattle.rules.specs.Rows.{rowsOf, numbersAt, ruleOf}
 use Rattle.rules.specs.Stretches.{width, offset, needOf}
 use Rattle.rules.proofs.StretchesLaws.{stretch-before}

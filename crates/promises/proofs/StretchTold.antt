@@ -15,12 +15,12 @@ use Rattle.meaning.proofs.SpansLaws.{le-or-lt}
 use Rattle.meaning.proofs.SoundLaws.{none-sound}
 use Rattle.meaning.specs.Figure.{figure}
 use Rattle.meaning.proofs.Tells.{Tells, tells-eqb, tells-or, tells-same, tells-decided, told-true, told-false}
+use Rattle.kinds.specs.Kinds.{Kind, kinds, hasStretch}
+use Rattle.kinds.proofs.KindsLaws.{kinds-pass, past-bare}
 use Rattle.rules.specs.Limits.{rowNumbers}
-use Rattle.rules.specs.Kinds.{Kind, kinds, hasStretch}
 use Rattle.rules.specs.Rows.{rowsOf, fieldAt, numbersAt, ruleOf}
 use Rattle.rules.specs.Stretches.{spansOf, width}
 use Rattle.rules.specs.declared.numbers.Numbers.{Numbers}
-use Rattle.rules.proofs.KindsLaws.{kinds-pass, past-bare}
 use Rattle.rules.proofs.PassedLaws.{InRange}
 use Rattle.rules.proofs.StretchesLaws.{spans-by-column, stretch-before}
 use Rattle.soundness.specs.declared.record.Record.{Record}

@@ -7,10 +7,10 @@ use Prim.Native.Nat.{ℕ, zero, suc, _<_}
 use native.Mathlib.Omega.{arith}
 use lib.ListN.{length}
 use Rattle.meaning.proofs.Tells.{Tells, tells-same}
-use Rattle.rules.specs.Kinds.{kinds, kindAt}
+use Rattle.kinds.specs.Kinds.{kinds, kindAt}
 use Rattle.rules.specs.Table.{lengthPasses, rowPasses, limitsPass}
 use Rattle.rules.specs.declared.numbers.Numbers.{Numbers}
-use Rattle.rules.proofs.KindsLaws.{AllFit, RowFits, row-fits-told}
+use Rattle.rules.proofs.RowFitsLaws.{AllFit, RowFits, row-fits-told}
 use Rattle.rules.proofs.TableLaws.{whole-rows-told}
 use Rattle.rules.proofs.PassedLaws.{range-told}
 use Rattle.promises.specs.Conditions.{LengthRight, RowRight, truth, bit, negation, both, either, previous, since, once, always, LimitsRight}

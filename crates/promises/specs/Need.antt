@@ -7,7 +7,7 @@ use Prim.Native.Nat.{ℕ, zero, suc, _+_, _*_}
 use Rattle.meaning.specs.Interval.{endOf}
 use Rattle.meaning.specs.Figure.{figure}
 use Rattle.spans.specs.Layout.{spanWords}
-use Rattle.rules.specs.Kinds.{stretch, xSinceY, onceX, alwaysX, hasStretch}
+use Rattle.kinds.specs.Kinds.{stretch, xSinceY, onceX, alwaysX, hasStretch}
 use Rattle.rules.specs.Rows.{rowsOf, numbersAt, ruleOf}
 use Rattle.rules.specs.Stretches.{needOf}
 use Rattle.rules.specs.declared.numbers.Numbers.{Numbers}

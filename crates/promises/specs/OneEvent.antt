@@ -10,10 +10,10 @@ use Prim.Native.Nat.{ℕ, _≤_, _<_}
 use lib.Dec.{T}
 use Rattle.meaning.specs.Interval.{endOf, Within}
 use Rattle.meaning.specs.Spans.{Span, In, Rising}
-use Rattle.rules.specs.Kinds.{stretch}
+use Rattle.kinds.specs.Kinds.{stretch}
+use Rattle.kinds.specs.declared.stretch.Stretch.{Stretch}
 use Rattle.rules.specs.Rows.{rowsOf, numbersAt, ruleOf, keptBy, fedBy}
 use Rattle.rules.specs.Stretches.{width}
-use Rattle.rules.specs.declared.stretch.Stretch.{Stretch}
 use Rattle.spans.specs.Layout.{Laid}
 use Rattle.soundness.specs.declared.record.Record.{Record}
 use Rattle.soundness.specs.Record.{truthAt, heldAt, stretchAt, spansFound, clockOf, eventTime}

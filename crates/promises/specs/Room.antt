@@ -9,11 +9,11 @@ use Rattle.meaning.specs.Formula.{truth, bit, Holds}
 use Rattle.meaning.specs.Spans.{Span}
 use Rattle.meaning.specs.Runs.{Runs}
 use Rattle.meaning.specs.Figure.{figure}
-use Rattle.rules.specs.Kinds.{stretch}
+use Rattle.kinds.specs.Kinds.{stretch}
 use Rattle.refusals.specs.Refusals.{refused}
+use Rattle.kinds.specs.declared.stretch.Stretch.{Stretch}
 use Rattle.rules.specs.Rows.{rowsOf, numbersAt, ruleOf}
 use Rattle.rules.specs.Stretches.{spansOf, needOf}
-use Rattle.rules.specs.declared.stretch.Stretch.{Stretch}
 use Rattle.refusals.specs.declared.refusal.Refusal.the-variants.{Store, Unsound}
 use Rattle.monitor.specs.Step.{Call, event, refusal}
 use Rattle.promises.specs.Stream.{Starts, state, history, clock, outcome}

@@ -11,11 +11,11 @@ use Rattle.meaning.specs.History.{History, lastTime}
 use Rattle.meaning.specs.Formula.{Formula, Holds}
 use Rattle.meaning.specs.Spans.{Span, In}
 use Rattle.meaning.specs.Runs.{Runs}
-use Rattle.rules.specs.Kinds.{stretch}
+use Rattle.kinds.specs.Kinds.{stretch}
+use Rattle.kinds.specs.declared.stretch.Stretch.{Stretch}
 use Rattle.rules.specs.Rows.{rowsOf, numbersAt, ruleOf, keptBy, fedBy}
 use Rattle.rules.specs.Stretches.{width}
 use Rattle.rules.specs.RowFormula.{formulaOf}
-use Rattle.rules.specs.declared.stretch.Stretch.{Stretch}
 use Rattle.spans.specs.Layout.{Laid}
 use Rattle.soundness.specs.Record.{truthAt, heldAt, stretchAt, clockOf}
 use Rattle.monitor.specs.Step.{Call}

@@ -1,5 +1,5 @@
 -- Laws of the rule table, for its functions and for callers. The functions' own proofs stand in folders of their names.
-pub mod KindsLaws
+pub mod RowFitsLaws
 pub mod RowsLaws
 pub mod FigureLaws
 pub mod StretchesLaws

@@ -22,7 +22,7 @@ use Rattle.rules.specs.RowFormula.{madeOf, formulaOf}
 use Rattle.rules.specs.declared.numbers.Numbers.{Numbers}
 use Rattle.refusals.specs.declared.refusal.Refusal.the-variants.{Length, Row, Limits}
 use Rattle.meaning.proofs.Truths.{zero-not-one}
-use Rattle.rules.proofs.KindsLaws.{RowFits, row-fits-told, Names, names-lower}
+use Rattle.rules.proofs.RowFitsLaws.{RowFits, row-fits-told, Names, names-lower}
 use Rattle.rules.proofs.TableLaws.{or-none, whole-rows-told}
 use Rattle.rules.proofs.RowFormulaLaws.{formula-made}
 use Rattle.rules.proofs.FigureLaws.{figure-most}

@@ -7,14 +7,14 @@ use native.Mathlib.Nat.{eq-or-lt-of-le, le-of-suc-le-suc}
 use native.Mathlib.Omega.{arith}
 use borrow.Author.Tests.{eq-eqb, ne-eqb}
 use Rattle.meaning.specs.Formula.{Formula}
-use Rattle.rules.specs.Kinds.{Rule, plain, stretch}
-use Rattle.rules.specs.declared.plain.Plain.the-variants as Plain
+use Rattle.kinds.specs.Kinds.{Rule, plain, stretch}
+use Rattle.kinds.specs.declared.plain.Plain.the-variants as Plain
+use Rattle.kinds.specs.declared.stretch.Keep.{Keep}
+use Rattle.kinds.specs.declared.stretch.Keep.the-variants.{Unasked, WhileX, WhileY}
 use Rattle.rules.specs.Rows.{numbersAt, ruleOf, keptBy}
 use Rattle.rules.specs.RowFormula.{below, formula, madeOf, formulaOf}
 use Rattle.rules.specs.declared.numbers.Numbers.{Numbers}
-use Rattle.rules.specs.declared.stretch.Keep.{Keep}
-use Rattle.rules.specs.declared.stretch.Keep.the-variants.{Unasked, WhileX, WhileY}
-use Rattle.rules.proofs.KindsLaws.{KeeperLower, Names}
+use Rattle.rules.proofs.RowFitsLaws.{KeeperLower, Names}
 
 -- The value of a row does not depend on how many rows above it there are.
 pub below-at : {A : Type 0} (other : A) (make : ℕ → (ℕ → A) → A) (n r : ℕ) → r < n → below other make n r ≡ make r (below other make r)

@@ -8,7 +8,7 @@ use native.Mathlib.Nat.{eq-or-lt-of-le, le-of-suc-le-suc}
 use native.Mathlib.Omega.{arith}
 use Rattle.meaning.specs.Interval.{endOf}
 use Rattle.meaning.specs.Figure.{figure}
-use Rattle.rules.specs.Kinds.{Rule, plain, stretch, hasStretch}
+use Rattle.kinds.specs.Kinds.{Rule, plain, stretch, hasStretch}
 use Rattle.rules.specs.Rows.{numbersAt, ruleOf}
 use Rattle.rules.specs.Stretches.{spansSaid, spansOf, width, offset}
 use Rattle.rules.specs.declared.numbers.Numbers.{Numbers}

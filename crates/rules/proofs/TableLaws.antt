@@ -10,14 +10,14 @@ use native.Mathlib.Numerals.{add-one}
 use native.Mathlib.Omega.{arith}
 use lib.ListN.{length}
 use Rattle.meaning.proofs.Tells.{Tells, tells-leb, tells-eqb, tells-and, tells-same}
+use Rattle.kinds.specs.Kinds.{known, kindAt, kindLine, useOf, fits}
+use Rattle.kinds.specs.declared.table.Use.{Use}
+use Rattle.kinds.specs.declared.table.KindLine.{KindLine}
 use Rattle.rules.specs.Limits.{rowNumbers, rowLimit}
-use Rattle.rules.specs.Kinds.{known, kindAt, kindLine, useOf, fits}
 use Rattle.rules.specs.Rows.{rowsOf, fieldAt, numbersAt}
 use Rattle.rules.specs.Stretches.{width, offset}
 use Rattle.refusals.specs.Refusals.{Refused, refused, _orElse_}
 use Rattle.rules.specs.Table.{lengthPasses, rowPasses, limitsPass, faultOf, firstFault, passed, refusedBy, checkOf}
-use Rattle.rules.specs.declared.kinds.Use.{Use}
-use Rattle.rules.specs.declared.kinds.KindLine.{KindLine}
 use Rattle.rules.specs.declared.numbers.Numbers.{Numbers}
 use Rattle.refusals.specs.declared.refusal.Refusal.the-variants.{Length, Row, Limits}
 use Rattle.meaning.proofs.Truths.{zero-not-one, and-false}

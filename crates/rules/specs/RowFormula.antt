@@ -5,11 +5,11 @@ use Prim.Native.Nat.{ℕ, zero, suc}
 use lib.Dec.{eqb}
 use Rattle.meaning.specs.Interval.{endOf}
 use Rattle.meaning.specs.Formula.{Formula}
-use Rattle.rules.specs.Kinds.{Rule, plain, stretch}
-use Rattle.rules.specs.declared.plain.Plain.the-variants as Plain
+use Rattle.kinds.specs.Kinds.{Rule, plain, stretch}
+use Rattle.kinds.specs.declared.plain.Plain.the-variants as Plain
+use Rattle.kinds.specs.declared.stretch.Stretch.{Stretch}
 use Rattle.rules.specs.Rows.{numbersAt, ruleOf, keptBy, taken, fedBy}
 use Rattle.rules.specs.declared.numbers.Numbers.{Numbers}
-use Rattle.rules.specs.declared.stretch.Stretch.{Stretch}
 
 -- "A row may name only lower rows": the values of rows 0 to n - 1, each made from those of the rows below it. `other` at every other number.
 unfoldable pub below : {A : Type 0} → A → (ℕ → (ℕ → A) → A) → ℕ → ℕ → A

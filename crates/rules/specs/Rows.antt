@@ -3,14 +3,14 @@ use mathlib.Core.Bool.{Bool, true, false}
 use mathlib.Core.List.{List}
 use Prim.Native.Nat.{ℕ, _+_, _*_, _/_}
 use lib.ListN.{length, getD}
+use Rattle.kinds.specs.Kinds.{Rule, kindAt}
+use Rattle.kinds.specs.declared.stretch.Keep.{Keep}
+use Rattle.kinds.specs.declared.stretch.Keep.the-variants.{Unasked, WhileX, WhileY}
+use Rattle.kinds.specs.declared.stretch.Feed.{Feed}
+use Rattle.kinds.specs.declared.stretch.Feed.the-variants.{FromX, FromY}
+use Rattle.kinds.specs.declared.stretch.Stretch.{Stretch}
 use Rattle.rules.specs.Limits.{rowNumbers}
-use Rattle.rules.specs.Kinds.{Rule, kindAt}
 use Rattle.rules.specs.declared.numbers.Numbers.{Numbers}
-use Rattle.rules.specs.declared.stretch.Keep.{Keep}
-use Rattle.rules.specs.declared.stretch.Keep.the-variants.{Unasked, WhileX, WhileY}
-use Rattle.rules.specs.declared.stretch.Feed.{Feed}
-use Rattle.rules.specs.declared.stretch.Feed.the-variants.{FromX, FromY}
-use Rattle.rules.specs.declared.stretch.Stretch.{Stretch}
 
 abbrev pub rowsOf : List ℕ → ℕ
 rowsOf table = length table / rowNumbers

@@ -4,7 +4,7 @@ use Prim.Native.Nat.{ℕ, zero, suc, _+_, _*_}
 use Rattle.meaning.specs.Interval.{endOf}
 use Rattle.meaning.specs.Figure.{figure}
 use Rattle.spans.specs.Layout.{spanWords}
-use Rattle.rules.specs.Kinds.{Rule, plain, stretch}
+use Rattle.kinds.specs.Kinds.{Rule, plain, stretch}
 use Rattle.rules.specs.Rows.{rowsOf, numbersAt, ruleOf}
 use Rattle.rules.specs.declared.numbers.Numbers.{Numbers}
 

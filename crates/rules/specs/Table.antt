@@ -7,8 +7,8 @@ use Prim.Native.Nat.{ℕ, zero, suc, _/_, _%_}
 use lib.Dec.{eqb, leb}
 use lib.ListN.{length}
 use Rattle.meaning.specs.Interval.{noEndNumber}
+use Rattle.kinds.specs.Kinds.{Kind, known, kindAt, fits}
 use Rattle.rules.specs.Limits.{rowNumbers, rowLimit, longest}
-use Rattle.rules.specs.Kinds.{Kind, known, kindAt, fits}
 use Rattle.rules.specs.Rows.{rowsOf, numbersAt}
 use Rattle.rules.specs.Stretches.{needOf}
 use Rattle.refusals.specs.Refusals.{Refused, refused, _orElse_}

@@ -1,6 +1,5 @@
 // The rule table.
 
-mod kinds;
 pub mod limits;
 pub mod numbers;
 pub mod plain;

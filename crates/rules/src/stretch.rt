@@ -3,44 +3,22 @@
 ghost use mathlib.Core.Path.{_≡_};
 ghost use Rattle.meaning.specs.Interval.{endOf};
 ghost use Rattle.meaning.specs.Figure.{figure};
-ghost use Rattle.rules.specs.Kinds.{ownsStretch, columnsOf};
+ghost use Rattle.kinds.specs.Kinds.{ownsStretch, columnsOf};
 ghost use Rattle.rules.specs.Rows.{ruleOf};
 ghost use Rattle.rules.specs.Stretches.{spansOf, width};
-use crate::kinds;
 use crate::numbers::Numbers;
+use kinds::stretch::Stretch;
+use kinds::table::line_of;
 use spans::stretch::SPAN_WORDS;
 use times::interval::has_no_end;
 use times::interval::length_of;
 use times::time::wide;
 
-// What is asked at an event for the spans to be kept: nothing, or that the row which x or y names is true.
-pub enum Keep {
-    Unasked,
-    WhileX,
-    WhileY,
-}
-
-// The row whose truth feeds the stretch: the one that x or y names.
-pub enum Feed {
-    FromX,
-    FromY,
-}
-
-// The columns of a kind with a stretch.
-pub struct Stretch {
-    pub keep: Keep,
-    pub feed: Feed,
-    // The truth of that row at which what the event reaches is joined in.
-    pub when: bool,
-    // Whether the row is true where the time lies in a span, or where it lies in none.
-    pub inside: bool,
-}
-
 // Whether a row owns a stretch, by the table of kinds.
 pub fn is_owned(row: Numbers) -> bool
     ensures { λ r. ⌜ r ≡ ownsStretch (row .kind) ⌝ }
 {
-    let line = kinds::line_of(row.kind);
+    let line = line_of(row.kind);
     line.4
 }
 
@@ -48,7 +26,7 @@ pub fn is_owned(row: Numbers) -> bool
 pub fn columns(row: Numbers) -> Stretch
     ensures { λ r. ⌜ r ≡ columnsOf (ruleOf row) ⌝ }
 {
-    let line = kinds::line_of(row.kind);
+    let line = line_of(row.kind);
     line.5
 }
 

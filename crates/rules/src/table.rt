@@ -2,12 +2,15 @@
 
 ghost use mathlib.Core.Path.{_≡_};
 ghost use Rattle.rules.specs.Table.{Checks, lengthPasses, limitsPass};
-use crate::kinds;
 use crate::limits::LONGEST;
 use crate::limits::ROW_LIMIT;
 use crate::limits::ROW_NUMBERS;
 use crate::numbers;
 use crate::stretch;
+use kinds::table::is_known;
+use kinds::table::line_of;
+use kinds::table::may_be;
+use kinds::table::use_of;
 use refusals::refusal::Refusal;
 use times::interval::has_no_end;
 
@@ -36,14 +39,14 @@ pub fn check(table: &[u32]) -> Checked
             };
         }
         let found = numbers::numbers_at(table, row);
-        if !kinds::is_known(found.kind) {
+        if !is_known(found.kind) {
             break 'rows Checked::Refused(Refusal::Row(row as u32));
         }
-        let line = kinds::line_of(found.kind);
+        let line = line_of(found.kind);
         let mut field: usize = 1;
         'fields: while field < ROW_NUMBERS {
             let number = numbers::number_at(table, row * ROW_NUMBERS + field);
-            if !kinds::may_be(row as u32, kinds::use_of(line, field), number) {
+            if !may_be(row as u32, use_of(line, field), number) {
                 break 'rows Checked::Refused(Refusal::Row(row as u32));
             }
             field += 1;

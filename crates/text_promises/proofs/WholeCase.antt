@@ -5,8 +5,8 @@ use Rattle.lines.specs.Lines.{linesGoingOn}
 use Rattle.text.specs.Replies.{replyLine}
 use Rattle.lines.specs.Digits.{isDigit, digitValue, digitsAt, hexAt, digitByte, digits}
 use Rattle.lines.specs.Line.{rightAt, sumAt, lineAt}
+use Rattle.kinds.specs.Kinds.{kindAt}
 use Rattle.rules.specs.Table.{checkOf, lengthPasses, rowPasses, limitsPass, faultOf, firstFault}
-use Rattle.rules.specs.Kinds.{kindAt}
 use Rattle.rules.specs.Rows.{numbersAt}
 use Rattle.rules.specs.Stretches.{offset}
 use Rattle.meaning.specs.Interval.{endOf}

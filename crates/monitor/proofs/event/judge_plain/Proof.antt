@@ -1,10 +1,10 @@
 -- `monitor::event::judge_plain` meets its contract, an arm for each thing that a row without a stretch says. Assumes nothing.
 use mathlib.Core.Path.{_≡_, sym, ap, _∙_}
 use borrow.Author.Needs.{needs}
-use Rattle.rules.specs.Kinds.{plain}
+use Rattle.kinds.specs.Kinds.{plain}
+use Rattle.kinds.specs.declared.plain.Plain.{Plain}
+use Rattle.kinds.proofs.KindsLaws.{bare-rule}
 use Rattle.rules.specs.Rows.{ruleOf}
-use Rattle.rules.specs.declared.plain.Plain.{Plain}
-use Rattle.rules.proofs.KindsLaws.{bare-rule}
 use Rattle.monitor.proofs.event.judge_plain.Statement.{statement}
 use Rattle.monitor.proofs.event.judge_plain.Tie as tie
 

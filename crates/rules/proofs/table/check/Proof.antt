@@ -12,8 +12,8 @@ use lib.ListN.{length}
 use native.Mathlib.Omega.{arith}
 use borrow.Author.Tests.{not-true, not-false}
 use Rattle.meaning.proofs.Tells.{tells-passed}
+use Rattle.kinds.specs.Kinds.{known}
 use Rattle.rules.specs.Limits.{rowNumbers}
-use Rattle.rules.specs.Kinds.{known}
 use Rattle.rules.specs.Rows.{numbersAt}
 use Rattle.refusals.specs.Refusals.{Refused}
 use Rattle.rules.specs.Stretches.{width, offset}

@@ -1,4 +1,4 @@
--- The one table of kinds (document 01, "The rule table"; 7 and 8 by document 02, E1). A new kind is a line here and in src/kinds.rt, and a case of `Plain`
+-- The one table of kinds (document 01, "The rule table"; 7 and 8 by document 02, E1). A new kind is a line here and in src/table.rt, and a case of `Plain`
 -- where it is no stretch.
 use mathlib.Core.Bool.{Bool, true, false, cond}
 use mathlib.Core.List.{List, [], _∷_}
@@ -6,14 +6,14 @@ use Prim.Native.Nat.{ℕ}
 use lib.Dec.{eqb, ltb}
 use lib.ListN.{length, getD}
 use Rattle.meaning.specs.Heartbeat.{heartbeatBit}
-use Rattle.rules.specs.declared.kinds.Use.{Use}
-use Rattle.rules.specs.declared.kinds.Use.the-variants.{Unused, Bit, Lower, Limit}
-use Rattle.rules.specs.declared.kinds.KindLine.{KindLine}
-use Rattle.rules.specs.declared.plain.Plain.{Plain}
-use Rattle.rules.specs.declared.plain.Plain.the-variants as Plain
-use Rattle.rules.specs.declared.stretch.Keep.the-variants.{Unasked, WhileX}
-use Rattle.rules.specs.declared.stretch.Feed.the-variants.{FromX, FromY}
-use Rattle.rules.specs.declared.stretch.Stretch.{Stretch}
+use Rattle.kinds.specs.declared.table.Use.{Use}
+use Rattle.kinds.specs.declared.table.Use.the-variants.{Unused, Bit, Lower, Limit}
+use Rattle.kinds.specs.declared.table.KindLine.{KindLine}
+use Rattle.kinds.specs.declared.plain.Plain.{Plain}
+use Rattle.kinds.specs.declared.plain.Plain.the-variants as Plain
+use Rattle.kinds.specs.declared.stretch.Keep.the-variants.{Unasked, WhileX}
+use Rattle.kinds.specs.declared.stretch.Feed.the-variants.{FromX, FromY}
+use Rattle.kinds.specs.declared.stretch.Stretch.{Stretch}
 
 -- What a row says: a plain kind, or a stretch with limits a and b, by its columns: what is asked for its spans to be kept, which row feeds it and at which
 -- truth, and whether it is true inside a span or outside every span.

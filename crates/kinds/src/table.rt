@@ -1,8 +1,8 @@
-// The one table of kinds (document 01; 7 and 8 by document 02, E1), private to the crate: specs/Kinds as code. A new kind is a line in both, and a case of
-// `Plain` where it has no stretch.
+// The one table of kinds (document 01; 7 and 8 by document 02, E1): specs/Kinds as code. A new kind is a line in both, and a case of `Plain` where it has
+// no stretch.
 
 ghost use mathlib.Core.Path.{_≡_};
-ghost use Rattle.rules.specs.Kinds.{kindAt, known, kindLine, useOf, fits};
+ghost use Rattle.kinds.specs.Kinds.{kindAt, known, kindLine, useOf, fits};
 use crate::plain::Plain;
 use crate::stretch::Feed;
 use crate::stretch::Keep;
@@ -101,14 +101,14 @@ const KINDS: [KindLine; 9] = [
 ];
 
 // Whether there is such a kind.
-pub(crate) fn is_known(kind: u32) -> bool
+pub fn is_known(kind: u32) -> bool
     ensures { λ r. ⌜ r ≡ known kind ⌝ }
 {
     (kind as usize) < KINDS.len()
 }
 
 // The line of a kind; where there is none, a line that uses nothing.
-pub(crate) fn line_of(kind: u32) -> KindLine
+pub fn line_of(kind: u32) -> KindLine
     ensures { λ r. ⌜ r ≡ kindLine (kindAt kind) ⌝ }
 {
     if is_known(kind) {
@@ -118,7 +118,7 @@ pub(crate) fn line_of(kind: u32) -> KindLine
 }
 
 // What the number at a field of a row is used as; the fields are x, y, a and b, from 1 on.
-pub(crate) fn use_of(line: KindLine, field: usize) -> Use
+pub fn use_of(line: KindLine, field: usize) -> Use
     ensures { λ r. ⌜ r ≡ useOf line field ⌝ }
 {
     match field {
@@ -130,7 +130,7 @@ pub(crate) fn use_of(line: KindLine, field: usize) -> Use
 }
 
 // Whether a number of the row may be used so.
-pub(crate) fn may_be(row: u32, usage: Use, number: u32) -> bool
+pub fn may_be(row: u32, usage: Use, number: u32) -> bool
     ensures { λ r. ⌜ r ≡ fits row usage number ⌝ }
 {
     match usage {

@@ -1,7 +1,7 @@
--- `rules::kinds::may_be` meets its contract: an arm for each use, as in `fits`. Assumes nothing.
+-- `kinds::table::may_be` meets its contract: an arm for each use, as in `fits`. Assumes nothing.
 use borrow.Author.Needs.{needs}
-use Rattle.rules.proofs.kinds.may_be.Statement.{statement}
-use Rattle.rules.proofs.kinds.may_be.Tie as tie
+use Rattle.kinds.proofs.table.may_be.Statement.{statement}
+use Rattle.kinds.proofs.table.may_be.Tie as tie
 
 enum-told : tie.Need-enum-told
 enum-told c = search needs

@@ -1,8 +1,8 @@
--- `rules::kinds::use_of` meets its contract: an arm for each field. Assumes nothing.
+-- `kinds::table::use_of` meets its contract: an arm for each field. Assumes nothing.
 use borrow.Author.Tests.{ne-eqb}
-use Rattle.rules.specs.Kinds.{useOf}
-use Rattle.rules.proofs.kinds.use_of.Statement.{statement}
-use Rattle.rules.proofs.kinds.use_of.Tie as tie
+use Rattle.kinds.specs.Kinds.{useOf}
+use Rattle.kinds.proofs.table.use_of.Statement.{statement}
+use Rattle.kinds.proofs.table.use_of.Tie as tie
 
 returns : tie.Need-returns
 unfolding useOf

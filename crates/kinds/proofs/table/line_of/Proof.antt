@@ -1,13 +1,13 @@
--- `rules::kinds::line_of` meets its contract: the code's table is the table of kinds, by `line-at`. Assumes nothing.
+-- `kinds::table::line_of` meets its contract: the code's table is the table of kinds, by `line-at`. Assumes nothing.
 use borrow.Author.Needs.{needs}
 use borrow.Author.Tests.{ltb-true, ltb-false}
 use mathlib.Core.Path.{sym, _∙_}
 use Prim.Native.Nat.{_≤_}
 use lib.ListN.{length, List·getD-eq-default}
-use Rattle.rules.specs.Kinds.{kinds, kindAt}
-use Rattle.rules.proofs.KindsLaws.{line-at}
-use Rattle.rules.proofs.kinds.line_of.Statement.{statement}
-use Rattle.rules.proofs.kinds.line_of.Tie as tie
+use Rattle.kinds.specs.Kinds.{kinds, kindAt}
+use Rattle.kinds.proofs.KindsLaws.{line-at}
+use Rattle.kinds.proofs.table.line_of.Statement.{statement}
+use Rattle.kinds.proofs.table.line_of.Tie as tie
 
 is-known-requires : tie.Need-is-known-requires
 is-known-requires c κs = search needs
