@@ -11,11 +11,12 @@ use lib.ListN.{length, getD}
 use borrow.Author.Tests.{leb-true}
 use Rattle.meaning.specs.Interval.{endOf, _+End_}
 use Rattle.meaning.specs.Heartbeat.{heartbeat?}
-use Rattle.meaning.specs.Spans.{Span, Rising, reachedFrom, update}
+use Rattle.meaning.specs.Spans.{Rising, reachedFrom, update}
 use Rattle.meaning.specs.Sound.{lengthOf}
 use Rattle.meaning.specs.Figure.{figure}
 use Rattle.spans.specs.Layout.{spanWords}
 use Rattle.kinds.specs.Kinds.{Rule, plain, stretch}
+use Rattle.kinds.specs.declared.stretch.Stretch.{Stretch}
 use Rattle.rules.specs.Rows.{rowsOf, numbersAt, ruleOf, keptBy, fedBy}
 use Rattle.rules.specs.Stretches.{spansSaid, width, offset}
 use Rattle.refusals.specs.Refusals.{Refused, _orElse_}
@@ -29,7 +30,7 @@ use Rattle.rules.proofs.StretchesLaws.{stretch-before}
 use Rattle.spans.specs.Layout.{Packed}
 use Rattle.spans.proofs.LayoutLaws.{Storable}
 use Rattle.sound_spans.proofs.SoundTold.{SoundStretch, stretch-told}
-use Rattle.sound_spans.proofs.StretchKept.{sound-packed, sound-rises, sound-ready}
+use Rattle.sound_spans.proofs.StretchKept.{Updatable, sound-packed, sound-ready}
 use Rattle.soundness.specs.declared.record.Record.{Record}
 use Rattle.times.specs.Times.{timeLimit}
 use Rattle.soundness.specs.Record.{wasSeen, truthAt, clockOf, eventTime, heldAt, stretchAt, spansFound}
@@ -114,20 +115,12 @@ module _ (table store : List ℕ) (found : Record) (time : ℕ) (met : Accepted 
         (heldAt found row) storable stretch-sound
 
     -- An update of the row at the time: what it leaves rises from there, and has room.
-    module _ (keep feed : Bool) where
-      abbrev updated : List Span
-      updated = update keep feed time (reachedFrom time (numbers .a) (endOf (numbers .b))) (spansFound table store found row)
-
-      rises-from : Rising time updated
-      rises-from =
-          sound-rises (clockOf found) time (eventTime found) (numbers .a) latestFirst (endOf (numbers .b)) (stretchAt table store row)
-          (heldAt found row) storable stretch-sound keep feed (range-order (numbers .a) (numbers .b) range) (met .risen) (omega (arith, times, met .risen))
-
-      room-for : spanWords * figure (numbers .a) (endOf (numbers .b)) ≤ length (stretchAt table store row)
-          → spanWords * length updated ≤ length (stretchAt table store row)
-      room-for size =
-          sound-ready (clockOf found) time (eventTime found) (numbers .a) latestFirst (endOf (numbers .b)) (stretchAt table store row)
-          (heldAt found row) storable stretch-sound keep feed (range-order (numbers .a) (numbers .b) range) (met .risen) (omega (arith, times, met .risen)) size
+    update-ready : (keep feed : Bool)
+        → Updatable time (figure (numbers .a) (endOf (numbers .b))) (length (stretchAt table store row))
+        (update keep feed time (reachedFrom time (numbers .a) (endOf (numbers .b))) (spansFound table store found row))
+    update-ready keep feed =
+        sound-ready (clockOf found) time (eventTime found) (numbers .a) latestFirst (endOf (numbers .b)) (stretchAt table store row)
+        (heldAt found row) storable stretch-sound keep feed (range-order (numbers .a) (numbers .b) range) (met .risen) (omega (arith, times, met .risen))
 
 -- The spans of a row after an event rise from its time and have room, whatever the truths of the lower rows.
 module _ (m : Moment) (met : Accepted (m .table) (m .store) (m .found) (m .time)) (row : ℕ) (lower : row < rowsOf (m .table))
@@ -135,12 +128,18 @@ module _ (m : Moment) (met : Accepted (m .table) (m .store) (m .found) (m .time)
   abbrev N : Numbers
   N = numbersAt (m .table) row
 
+  -- Of a row with a stretch.
+  by-columns : (columns : Stretch)
+      → Updatable (m .time) (figure (N .a) (endOf (N .b))) (length (stretchAt (m .table) (m .store) row))
+      (spansBy (m .time) truths (spansFound (m .table) (m .store) (m .found) row) N (stretch columns))
+  by-columns columns =
+      update-ready (m .table) (m .store) (m .found) (m .time) met row lower (keptBy true (truthAt truths) N (columns .keep))
+      (fedBy not (truthAt truths) N columns)
+
   rises-by : (rule : Rule) → Rising (m .time) (spansBy (m .time) truths (spansFound (m .table) (m .store) (m .found) row) N rule)
   unfolding Rising
   rises-by (plain says) = tt
-  rises-by (stretch columns) =
-      rises-from (m .table) (m .store) (m .found) (m .time) met row lower (keptBy true (truthAt truths) N (columns .keep))
-      (fedBy not (truthAt truths) N columns)
+  rises-by (stretch columns) = by-columns columns .rises
 
   pub row-rises : Rising (m .time) (spansAfter m row truths)
   unfolding spansAfter
@@ -149,10 +148,7 @@ module _ (m : Moment) (met : Accepted (m .table) (m .store) (m .found) (m .time)
   enough-by : (rule : Rule) → length (stretchAt (m .table) (m .store) row) ≡ spanWords * spansSaid rule N
       → spanWords * length (spansBy (m .time) truths (spansFound (m .table) (m .store) (m .found) row) N rule) ≤ spanWords * spansSaid rule N
   enough-by (plain says) size = omega arith
-  enough-by (stretch columns) size =
-      rw (← size)
-      (room-for (m .table) (m .store) (m .found) (m .time) met row lower (keptBy true (truthAt truths) N (columns .keep))
-      (fedBy not (truthAt truths) N columns) (omega arith))
+  enough-by (stretch columns) size = rw (← size) (by-columns columns .room (omega arith))
 
   pub row-enough : spanWords * length (spansAfter m row truths) ≤ width N
   unfolding spansAfter
