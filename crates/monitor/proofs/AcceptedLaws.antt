@@ -30,7 +30,7 @@ use Rattle.rules.proofs.StretchesLaws.{stretch-before}
 use Rattle.spans.specs.Layout.{Packed}
 use Rattle.spans.proofs.LayoutLaws.{Storable}
 use Rattle.sound_spans.proofs.SoundTold.{SoundStretch, stretch-told}
-use Rattle.sound_spans.proofs.StretchKept.{Updatable, sound-packed, sound-ready}
+use Rattle.sound_spans.proofs.StretchKept.{UpdateLeaves, sound-packed, sound-ready}
 use Rattle.soundness.specs.declared.record.Record.{Record}
 use Rattle.times.specs.Times.{timeLimit}
 use Rattle.soundness.specs.Record.{wasSeen, truthAt, clockOf, eventTime, heldAt, stretchAt, spansFound}
@@ -116,7 +116,7 @@ module _ (table store : List ℕ) (found : Record) (time : ℕ) (met : Accepted 
 
     -- An update of the row at the time: what it leaves rises from there, and has room.
     update-ready : (keep feed : Bool)
-        → Updatable time (figure (numbers .a) (endOf (numbers .b))) (length (stretchAt table store row))
+        → UpdateLeaves time (figure (numbers .a) (endOf (numbers .b))) (length (stretchAt table store row))
         (update keep feed time (reachedFrom time (numbers .a) (endOf (numbers .b))) (spansFound table store found row))
     update-ready keep feed =
         sound-ready (clockOf found) time (eventTime found) (numbers .a) latestFirst (endOf (numbers .b)) (stretchAt table store row)
@@ -130,7 +130,7 @@ module _ (m : Moment) (met : Accepted (m .table) (m .store) (m .found) (m .time)
 
   -- Of a row with a stretch.
   by-columns : (columns : Stretch)
-      → Updatable (m .time) (figure (N .a) (endOf (N .b))) (length (stretchAt (m .table) (m .store) row))
+      → UpdateLeaves (m .time) (figure (N .a) (endOf (N .b))) (length (stretchAt (m .table) (m .store) row))
       (spansBy (m .time) truths (spansFound (m .table) (m .store) (m .found) row) N (stretch columns))
   by-columns columns =
       update-ready (m .table) (m .store) (m .found) (m .time) met row lower (keptBy true (truthAt truths) N (columns .keep))

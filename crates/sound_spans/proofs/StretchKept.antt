@@ -16,7 +16,7 @@ use Rattle.spans.proofs.LayoutLaws.{Storable, laid-read}
 use Rattle.sound_spans.proofs.SoundTold.{SoundStretch, sound-stored}
 
 -- What an update at t leaves rises from t, and has room in words that have it for so many spans.
-pub record Updatable (t spans size : ℕ) (S : List Span) : Type 0 where
+pub record UpdateLeaves (t spans size : ℕ) (S : List Span) : Type 0 where
   pub rises : Rising t S
   pub room : 2 * spans ≤ size → 2 * length S ≤ size
 
@@ -39,7 +39,7 @@ module _
     held-sound = rw read (sound .sound)
 
     pub sound-ready : (keep feed : Bool) → a ≤End b → now ≤ t → event ≤ t
-        → Updatable t (figure a b) (length words) (update keep feed t (reachedFrom t a b) (spansHeld words held))
+        → UpdateLeaves t (figure a b) (length words) (update keep feed t (reachedFrom t a b) (spansHeld words held))
     sound-ready keep feed order present seen =
         record {
           rises = update-rises keep feed now t event a latestFirst b (spansHeld words held) order present seen held-sound;
