@@ -1,5 +1,5 @@
--- Any two outcomes that the contract of a public function allows are the same: its code, and every word, field and number that it was lent. That
--- of `muk_version` is that the answer equals a value, so for it `one-value` of `meaning` is the law.
+-- Any two outcomes that the contract of a public function allows are the same: its code, and every word, field and number that it was lent. The
+-- contract of `muk_version` is that the answer equals a value, so for it `one-value` of `meaning` is the law.
 use mathlib.Core.List.{List}
 use mathlib.Core.Path.{_≡_, ap}
 use Prim.Native.Nat.{ℕ}
@@ -19,7 +19,7 @@ pub start-one-outcome : (table store : List ℕ) (r r′ : ℕ) (k k′ : Record
     → StartLeaves table store r k s → StartLeaves table store r′ k′ s′ → (r ≡ r′) × (k ≡ k′) × (s ≡ s′)
 start-one-outcome table store = one-left
 
--- `muk_event` and `muk_frame`.
+-- `muk_event` and `muk_frame`, and the two that are handed the record, `event_coded` and `frame_coded`.
 pub call-one-outcome : (setup : Setup) (store : List ℕ) (found : Record) (call : Call) (r r′ : ℕ) (k k′ : Record) (s s′ : List ℕ)
     → CallLeaves setup store found call r k s → CallLeaves setup store found call r′ k′ s′ → (r ≡ r′) × (k ≡ k′) × (s ≡ s′)
 call-one-outcome setup store found call = one-left
