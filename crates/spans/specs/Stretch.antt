@@ -11,10 +11,11 @@ use Rattle.spans.specs.declared.stretch.Held.{Held}
 use Rattle.spans.specs.declared.stretch.Updated.{Updated}
 use Rattle.spans.specs.Layout.{spansHeld, fitting, spansOver, freed}
 
--- "The row is true at t exactly when t lies in a span."
+-- The time lies in a span, to which its first and its last belong.
 abbrev pub spanCovers : ℕ → Span → Bool
 spanCovers now (first to last) = leb first now && notPast? now last
 
+-- "The row is true at t exactly when t lies in a span."
 unfoldable pub covered : ℕ → List Span → Bool
 covered now [] = false
 covered now (span ∷ S) = spanCovers now span || covered now S
