@@ -5,7 +5,8 @@ use mathlib.Core.Path.{_≡_, ap}
 use Prim.Native.Nat.{ℕ}
 use Rattle.meaning.proofs.OneValue.{one-value}
 use Rattle.soundness.specs.declared.record.Record.{Record}
-use Rattle.monitor.specs.Step.{Setup, Call}
+use Rattle.soundness.specs.Setup.{Setup}
+use Rattle.monitor.specs.Step.{Call}
 use Rattle.board.specs.Left.{Left, left, StartLeaves, CallLeaves}
 use Rattle.board.specs.Numbers.{Taken, checked, CheckLeaves, Timed, timed, TimeLeaves, LineGiven, line, LineLeaves}
 
@@ -15,11 +16,11 @@ one-left r r′ k k′ s s′ p q =
     let e : left r k s ≡ left r′ k′ s′ = one-value p q in
     (ap (λ (o : Left). o .code) e, ap (λ (o : Left). o .kept) e, ap (λ (o : Left). o .store) e)
 
-pub start-one-outcome : (table store : List ℕ) (r r′ : ℕ) (k k′ : Record) (s s′ : List ℕ)
-    → StartLeaves table store r k s → StartLeaves table store r′ k′ s′ → (r ≡ r′) × (k ≡ k′) × (s ≡ s′)
-start-one-outcome table store = one-left
+pub start-one-outcome : (setup : Setup) (store : List ℕ) (r r′ : ℕ) (k k′ : Record) (s s′ : List ℕ)
+    → StartLeaves setup store r k s → StartLeaves setup store r′ k′ s′ → (r ≡ r′) × (k ≡ k′) × (s ≡ s′)
+start-one-outcome setup store = one-left
 
--- `muk_event` and `muk_frame`, and the two that are handed the record, `event_coded` and `frame_coded`.
+-- `muk_event` and `muk_frame`.
 pub call-one-outcome : (setup : Setup) (store : List ℕ) (found : Record) (call : Call) (r r′ : ℕ) (k k′ : Record) (s s′ : List ℕ)
     → CallLeaves setup store found call r k s → CallLeaves setup store found call r′ k′ s′ → (r ≡ r′) × (k ≡ k′) × (s ≡ s′)
 call-one-outcome setup store found call = one-left

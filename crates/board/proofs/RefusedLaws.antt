@@ -4,7 +4,7 @@ use mathlib.Core.Bool.{Bool, true, false, cond}
 use mathlib.Core.List.{List}
 use mathlib.Core.Option.{Option, none, some}
 use mathlib.Core.Path.{_≡_, refl}
-use Prim.Native.Nat.{ℕ}
+use Prim.Native.Nat.{ℕ, _<_}
 use native.Mathlib.Omega.{arith}
 use lib.ListN.{length}
 use Rattle.meaning.specs.Heartbeat.{heartbeat?}
@@ -15,24 +15,28 @@ use Rattle.soundness.specs.Record.{nothingSeen}
 use Rattle.soundness.specs.Ready.{readyOf}
 use Rattle.monitor.specs.Start.{begin, startOf}
 use Rattle.monitor.specs.Event.{recordAfter}
-use Rattle.monitor.specs.Step.{Setup, Call, TimeReply, at, notAt, maskOf, verdict, clockMoved, momentOf, verdictOf, outcomeBy, refusalOf, stepOf}
+use Rattle.soundness.specs.Setup.{Setup}
+use Rattle.monitor.specs.Step.{Call, TimeReply, at, notAt, maskOf, verdict, clockMoved, momentOf, verdictOf, outcomeBy, refusalOf, stepOf}
 use Rattle.lines.specs.Read as Read
-use Rattle.codes.specs.Code.{movedCode, codeOf, numberTold, IsRefusal}
+use Rattle.codes.specs.Code.{verdictRoom, movedCode, codeOf, numberTold, IsRefusal}
 use Rattle.board.specs.Left.{startedOf, codedOf}
 use Rattle.board.specs.Numbers.{checkedOf, timedOf, lineBy, lineLeft}
+use Rattle.row_list.proofs.VerdictLaws.{verdict-below}
 use Rattle.codes.proofs.CodeLaws.{verdict-tag, moved-tag}
 
 -- What is accepted, a heartbeat or an event, tells no refusal.
-not-refused : {A : Type 0} (beat holds : Bool) → IsRefusal (codeOf (cond beat clockMoved (verdict holds))) → A
-not-refused true holds told = let none : numberTold movedCode ≡ 0 = moved-tag in absurd (omega arith)
-not-refused false holds told = let none : numberTold (codeOf (verdict holds)) ≡ 0 = verdict-tag holds in absurd (omega arith)
+not-refused : {A : Type 0} (beat : Bool) (number : ℕ) → number < verdictRoom → IsRefusal (codeOf (cond beat clockMoved (verdict number))) → A
+not-refused true number fits told = let none : numberTold movedCode ≡ 0 = moved-tag in absurd (omega arith)
+not-refused false number fits told = let none : numberTold (codeOf (verdict number)) ≡ 0 = verdict-tag number fits in absurd (omega arith)
 
 -- An event or a frame: the record and the store stay.
 module _ (setup : Setup) (store : List ℕ) (found : Record) (call : Call) where
   stays : (fault : Option Refused) → let o = codedOf (outcomeBy setup store found (momentOf setup store found call) fault) in
       IsRefusal (o .code) → (o .kept ≡ found) × (o .store ≡ store)
   stays (some fault) refused = (refl, refl)
-  stays none refused = not-refused (heartbeat? (maskOf call)) (verdictOf setup (recordAfter (momentOf setup store found call) .truths)) refused
+  stays none refused =
+      let truths : List ℕ = recordAfter (momentOf setup store found call) .truths in
+      not-refused (heartbeat? (maskOf call)) (verdictOf setup truths) (verdict-below truths (setup .list)) refused
 
   pub refused-call-stays : let o = codedOf (stepOf setup store found call) in IsRefusal (o .code) → (o .kept ≡ found) × (o .store ≡ store)
   unfolding stepOf
@@ -44,10 +48,10 @@ begins : (store : List ℕ) (ready : Table.CheckReply) → let o = startedOf (be
 begins store (Table.passed rows need) refused = absurd (omega arith)
 begins store (Table.refusedBy fault) refused = (refl, refl)
 
-pub refused-start-zero : (table store : List ℕ) → let o = startedOf (startOf table store) in
+pub refused-start-zero : (setup : Setup) (store : List ℕ) → let o = startedOf (startOf setup store) in
     IsRefusal (o .code) → (o .kept ≡ nothingSeen 0) × (o .store ≡ store)
 unfolding startOf
-refused-start-zero table store = begins store (readyOf table (length store))
+refused-start-zero setup store = begins store (readyOf setup (length store))
 
 -- A table check: row count and need stay.
 pub refused-check-stays : (said : Table.CheckReply) (rows need : ℕ) → let o = checkedOf said rows need in

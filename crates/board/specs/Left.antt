@@ -4,7 +4,8 @@ use mathlib.Core.Path.{_≡_}
 use Prim.Native.Nat.{ℕ}
 use Rattle.soundness.specs.declared.record.Record.{Record}
 use Rattle.monitor.specs.Start.{Beginning, startOf}
-use Rattle.monitor.specs.Step.{Setup, Call, Outcome, stepOf}
+use Rattle.soundness.specs.Setup.{Setup}
+use Rattle.monitor.specs.Step.{Call, Outcome, stepOf}
 use Rattle.codes.specs.Code.{codeOf, refusedCode}
 
 pub record Left : Type 0 where
@@ -20,8 +21,8 @@ abbrev pub startedOf : Beginning → Left
 startedOf b = left (refusedCode (b .refusal)) (b .given) (b .store)
 
 -- The code that a start answers, and the record and the words that it leaves, from the words that it found.
-abbrev pub StartLeaves : (table store : List ℕ) → (code : ℕ) (kept : Record) (after : List ℕ) → Type 0
-StartLeaves table store code kept after = left code kept after ≡ startedOf (startOf table store)
+abbrev pub StartLeaves : Setup → (store : List ℕ) → (code : ℕ) (kept : Record) (after : List ℕ) → Type 0
+StartLeaves setup store code kept after = left code kept after ≡ startedOf (startOf setup store)
 
 -- An event or a frame.
 abbrev pub codedOf : Outcome → Left

@@ -2,7 +2,6 @@
 // calls. No struct goes by value in or out of an exported function, so that the calling convention is the same on every processor. A single number
 // behind a pointer is written only where the call gives it.
 
-pub mod coded;
 pub mod event;
 pub mod frame;
 pub mod frame_time;

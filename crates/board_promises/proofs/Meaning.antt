@@ -1,76 +1,66 @@
 -- The code of a call after calls in place is that of the stream's reply, so the promise of the verdicts is read off it: the call is kept, a true event or a
 -- heartbeat, or its time is over the limit, or it is below the clock.
-use mathlib.Core.Bool.{Bool, true, false}
 use mathlib.Core.List.{List}
-use mathlib.Core.Logic.{_↔_, inl, inr, ⊎-elim}
+use mathlib.Core.Logic.{inl, inr, ⊎-elim}
 use mathlib.Core.Path.{_≡_, refl, ap, _∙_}
 use native.Mathlib.Omega.{arith}
 use Prim.Native.Nat.{ℕ, _≤_, _<_}
-use lib.Dec.{T}
-use Rattle.meaning.specs.Formula.{Holds}
 use Rattle.meaning.proofs.SpansLaws.{le-or-lt}
 use Rattle.meaning.proofs.Tells.{tells-decided}
 use Rattle.refusals.specs.Refusals.{refused}
 use Rattle.refusals.specs.declared.refusal.Refusal.the-variants.{Earlier, Late}
 use Rattle.times.specs.Times.{timeLimit}
+use Rattle.soundness.specs.Setup.{Setup}
 use Rattle.monitor.specs.Step.{Call, timeOf, maskOf, verdict}
-use Rattle.promises.specs.Stream.{Starts, Keeps, Beats, clock, longer, outcome}
-use Rattle.promises.specs.Verdicts.{Answered, judgedFormula}
+use Rattle.monitor.proofs.StepLaws.{verdict-fits}
+use Rattle.promises.specs.Stream.{Starts, Keeps, Beats, clock, outcome}
+use Rattle.promises.specs.Verdicts.{Answered, Meant}
 use Rattle.promises.proofs.StreamLaws.{beats-told}
 use Rattle.promises.proofs.Verdicts.{truths-are-meaning, verdict-is-meaning}
-use Rattle.codes.specs.Code.{movedCode, codeOf, refusalCode}
+use Rattle.codes.specs.Code.{verdictRoom, movedCode, codeOf, refusalCode}
 use Rattle.board.specs.Left.{Left}
 use Rattle.board_promises.specs.Meaning.{CodeMeant, CodesTellTheMeaning}
 use Rattle.board_promises.proofs.Starting.{start-is-the-streams}
 use Rattle.board_promises.proofs.Calls.{calls-are-the-stream}
 
-module _ (table : List ℕ) (calls : List Call) (c : Call) (code : ℕ) where
-  kept-meant : (holds : Bool)
-      → code ≡ codeOf (verdict holds)
+module _ (setup : Setup) (calls : List Call) (c : Call) (code : ℕ) where
+  kept-meant : (number : ℕ)
+      → code ≡ codeOf (verdict number)
+      → number < verdictRoom
       → Keeps (clock calls) c
       → ¬ Beats c
-      → T holds ↔ Holds (judgedFormula table) (longer calls c)
-      → CodeMeant table calls c code
-  kept-meant true is keeps no-beat means =
+      → Meant setup calls c number
+      → CodeMeant setup calls c code
+  kept-meant number is small keeps no-beat means =
       record {
-        judged = (λ small. (keeps, no-beat), λ _. omega arith);
+        judged = (λ _. (keeps, no-beat), λ _. omega arith);
         moved = (λ told. absurd (omega arith), λ both. absurd (no-beat (both .1)));
-        bit = λ small. inr is;
-        yes = λ small. (λ one. means .0 tt, λ holding. is);
-        late = λ over. absurd (omega (arith, keeps .within));
-        earlier = λ within below. absurd (omega (arith, keeps .risen));
-        number = λ large. absurd (omega arith);
-      }
-  kept-meant false is keeps no-beat means =
-      record {
-        judged = (λ small. (keeps, no-beat), λ _. omega arith);
-        moved = (λ told. absurd (omega arith), λ both. absurd (no-beat (both .1)));
-        bit = λ small. inl is;
-        yes = λ small. (λ one. absurd (omega arith), λ holding. absurd (means .1 holding));
+        bits = λ _ k within. rw is (means .holding k within);
+        others = λ _ k past. rw is (means .others k past);
         late = λ over. absurd (omega (arith, keeps .within));
         earlier = λ within below. absurd (omega (arith, keeps .risen));
         number = λ large. absurd (omega arith);
       }
 
-  moved-meant : code ≡ movedCode → Keeps (clock calls) c → Beats c → CodeMeant table calls c code
+  moved-meant : code ≡ movedCode → Keeps (clock calls) c → Beats c → CodeMeant setup calls c code
   moved-meant is keeps beat =
       record {
         judged = (λ small. absurd (omega arith), λ both. absurd (both .1 beat));
         moved = (λ told. (keeps, beat), λ both. is);
-        bit = λ small. absurd (omega arith);
-        yes = λ small. absurd (omega arith);
+        bits = λ small. absurd (omega arith);
+        others = λ small. absurd (omega arith);
         late = λ over. absurd (omega (arith, keeps .within));
         earlier = λ within below. absurd (omega (arith, keeps .risen));
         number = λ told. absurd (omega arith);
       }
 
-  late-meant : timeLimit < timeOf (clock calls) c → code ≡ refusalCode (refused Late) → CodeMeant table calls c code
+  late-meant : timeLimit < timeOf (clock calls) c → code ≡ refusalCode (refused Late) → CodeMeant setup calls c code
   late-meant over is =
       record {
         judged = (λ small. absurd (omega arith), λ both. absurd (omega (arith, both .0 .within)));
         moved = (λ told. absurd (omega arith), λ both. absurd (omega (arith, both .0 .within)));
-        bit = λ small. absurd (omega arith);
-        yes = λ small. absurd (omega arith);
+        bits = λ small. absurd (omega arith);
+        others = λ small. absurd (omega arith);
         late = λ _. is;
         earlier = λ within below. absurd (omega arith);
         number = λ large. inl (omega arith);
@@ -79,21 +69,21 @@ module _ (table : List ℕ) (calls : List Call) (c : Call) (code : ℕ) where
   earlier-meant : timeOf (clock calls) c ≤ timeLimit
       → timeOf (clock calls) c < clock calls
       → code ≡ refusalCode (refused Earlier)
-      → CodeMeant table calls c code
+      → CodeMeant setup calls c code
   earlier-meant within below is =
       record {
         judged = (λ small. absurd (omega arith), λ both. absurd (omega (arith, both .0 .risen)));
         moved = (λ told. absurd (omega arith), λ both. absurd (omega (arith, both .0 .risen)));
-        bit = λ small. absurd (omega arith);
-        yes = λ small. absurd (omega arith);
+        bits = λ small. absurd (omega arith);
+        others = λ small. absurd (omega arith);
         late = λ over. absurd (omega arith);
         earlier = λ _ _. is;
         number = λ large. inr (omega arith);
       }
 
-  reply-meant : (lent : List ℕ) → Starts table lent → code ≡ codeOf (outcome table lent calls c .reply) → CodeMeant table calls c code
+  reply-meant : (lent : List ℕ) → Starts setup lent → code ≡ codeOf (outcome setup lent calls c .reply) → CodeMeant setup calls c code
   reply-meant lent starts is =
-      let answered : Answered table lent calls c = truths-are-meaning table lent starts calls .answered c in
+      let answered : Answered setup lent calls c = truths-are-meaning setup lent starts calls .answered c in
       ⊎-elim
       (λ within.
       ⊎-elim
@@ -103,8 +93,8 @@ module _ (table : List ℕ) (calls : List Call) (c : Call) (code : ℕ) where
       (λ beat. moved-meant (is ∙ ap codeOf (answered .moved keeps beat)) keeps beat)
       (λ no-beat.
       let told = answered .judged keeps no-beat in
-      kept-meant (told .0) (is ∙ ap codeOf (told .1)) keeps no-beat
-      (verdict-is-meaning table lent starts calls c (told .0) (told .1) .holding))
+      kept-meant (told .0) (is ∙ ap codeOf (told .1)) (verdict-fits setup _ _ c (told .0) (told .1)) keeps no-beat
+      (verdict-is-meaning setup lent starts calls c (told .0) (told .1)))
       (tells-decided (beats-told (maskOf c))))
       (λ below. earlier-meant within below (is ∙ ap codeOf (answered .earlier within below)))
       (le-or-lt (clock calls) (timeOf (clock calls) c)))
@@ -112,9 +102,9 @@ module _ (table : List ℕ) (calls : List Call) (c : Call) (code : ℕ) where
       (le-or-lt (timeOf (clock calls) c) timeLimit)
 
 pub codes-tell-the-meaning : CodesTellTheMeaning
-codes-tell-the-meaning table lent store found calls codes between stand c code kept words start made last =
-    let starts : Starts table lent = start-is-the-streams table lent 0 found store start .good .0 refl in
-    let so-far = calls-are-the-stream .from-start table lent store found calls codes between stand start made in
-    let is : code ≡ codeOf (outcome table lent calls c .reply) =
+codes-tell-the-meaning setup lent store found calls codes between stand c code kept words start made last =
+    let starts : Starts setup lent = start-is-the-streams setup lent 0 found store start .good .0 refl in
+    let so-far = calls-are-the-stream .from-start setup lent store found calls codes between stand start made in
+    let is : code ≡ codeOf (outcome setup lent calls c .reply) =
     ap (λ (l : Left). l .code) last ∙ rw (so-far .kept-is, so-far .words-are) in
-    reply-meant table calls c code lent starts is
+    reply-meant setup calls c code lent starts is

@@ -5,7 +5,8 @@ use native.Mathlib.Omega.{arith}
 use Prim.Native.Nat.{ℕ, zero, suc, _<_, min}
 use lib.ListN.{length, getD, take, drop, length-take}
 use lib.Seq.{getD-take}
-use Rattle.monitor.specs.Step.{setupOf, Call}
+use Rattle.soundness.specs.Setup.{Setup}
+use Rattle.monitor.specs.Step.{Call}
 use Rattle.promises.specs.Stream.{State, call, next, after}
 use Rattle.promises.specs.LineTimes.{replies}
 use Rattle.codes.specs.Code.{codeOf}
@@ -16,21 +17,21 @@ use Rattle.board_promises.specs.Calls.{standing}
 use Rattle.board_promises.specs.Runs.{callsMade, RunsAreTheStream}
 
 -- What the stream of these calls leaves, behind its codes the later ones.
-abbrev streamed : List ℕ → State → List ℕ → List Call → Ran
-streamed table s codes calls =
-    ran (after table s calls .found) (after table s calls .store) (map codeOf (replies table s calls) ++ drop (length calls) codes)
+abbrev streamed : Setup → State → List ℕ → List Call → Ran
+streamed setup s codes calls =
+    ran (after setup s calls .found) (after setup s calls .store) (map codeOf (replies setup s calls) ++ drop (length calls) codes)
 
-run-streamed : (table : List ℕ) (s : State) (codes : List ℕ) (calls : List Call) (n : ℕ)
+run-streamed : (setup : Setup) (s : State) (codes : List ℕ) (calls : List Call) (n : ℕ)
     → n ≡ min (length calls) (length codes)
-    → runOf (setupOf table) (s .found) (s .store) codes calls ≡ streamed table s codes (take n calls)
+    → runOf setup (s .found) (s .store) codes calls ≡ streamed setup s codes (take n calls)
 unfolding runOf after replies
-run-streamed table s codes [] zero least = refl
-run-streamed table s codes [] (suc n) least = absurd (omega arith)
-run-streamed table s [] (c ∷ calls) zero least = refl
-run-streamed table s [] (c ∷ calls) (suc n) least = absurd (omega arith)
-run-streamed table s (code ∷ codes) (c ∷ calls) zero least = absurd (omega arith)
-run-streamed table s (code ∷ codes) (c ∷ calls) (suc n) least =
-    ap (Run.codeThen (codeOf (call table s c .reply))) (run-streamed table (next table s c) codes calls n (omega arith))
+run-streamed setup s codes [] zero least = refl
+run-streamed setup s codes [] (suc n) least = absurd (omega arith)
+run-streamed setup s [] (c ∷ calls) zero least = refl
+run-streamed setup s [] (c ∷ calls) (suc n) least = absurd (omega arith)
+run-streamed setup s (code ∷ codes) (c ∷ calls) zero least = absurd (omega arith)
+run-streamed setup s (code ∷ codes) (c ∷ calls) (suc n) least =
+    ap (Run.codeThen (codeOf (call setup s c .reply))) (run-streamed setup (next setup s c) codes calls n (omega arith))
 
 -- A call of two rows, by its place.
 call-at : (kind : ℕ → ℕ → Call) (numbers masks : List ℕ) (i : ℕ) (other : Call) → i < length numbers → i < length masks
@@ -42,14 +43,14 @@ call-at kind (number ∷ numbers) (mask ∷ masks) zero other h h′ = refl
 call-at kind (number ∷ numbers) (mask ∷ masks) (suc i) other h h′ = call-at kind numbers masks i other (omega arith) (omega arith)
 
 pub runs-are-the-stream : RunsAreTheStream
-runs-are-the-stream table store found kind numbers masks codes kept words answers left =
+runs-are-the-stream setup store found kind numbers masks codes kept words answers left =
     let count : ℕ = callsMade numbers masks codes in
     let rows : List Call = callsOf kind numbers masks in
     let calls : List Call = take count rows in
     let many : length rows ≡ min (length numbers) (length masks) = calls-end kind numbers masks in
     let as-many : length calls ≡ count = length-take count rows ∙ omega arith in
-    let is : ran kept words answers ≡ streamed table (standing store found) codes calls =
-    left ∙ run-streamed table (standing store found) codes rows count (omega arith) in
+    let is : ran kept words answers ≡ streamed setup (standing store found) codes calls =
+    left ∙ run-streamed setup (standing store found) codes rows count (omega arith) in
     record {
       calls = calls;
       as-many = as-many;

@@ -10,6 +10,7 @@ use Rattle.rules.specs.Rows.{rowsOf}
 use Rattle.rules.specs.Stretches.{needOf}
 use Rattle.rules.specs.Table.{passed, refusedBy}
 use Rattle.soundness.specs.declared.record.Record.{Record}
+use Rattle.soundness.specs.Setup.{Setup}
 use Rattle.monitor.specs.Start.{begin, startOf}
 use Rattle.promises.specs.Conditions.{Ready}
 use Rattle.promises.specs.Refusing.{StartRefused}
@@ -19,11 +20,11 @@ use Rattle.board.specs.Left.{Left, StartLeaves}
 use Rattle.board_promises.specs.Starting.{StartTold, StartIsTheStreams}
 use Rattle.board_promises.proofs.NumberLaws.{start-above}
 
-module _ (table store : List ℕ) (code : ℕ) (kept : Record) (words : List ℕ) (made : StartLeaves table store code kept words) where
-  ready-told : Ready table (length store) → StartTold table store code kept words
+module _ (setup : Setup) (store : List ℕ) (code : ℕ) (kept : Record) (words : List ℕ) (made : StartLeaves setup store code kept words) where
+  ready-told : Ready setup (length store) → StartTold setup store code kept words
   unfolding startOf
   ready-told ready =
-      let passes : startOf table store ≡ begin store (passed (rowsOf table) (needOf table)) = rw (start-passes table (length store) ready) in
+      let passes : startOf setup store ≡ begin store (passed (rowsOf (setup .table)) (needOf (setup .table))) = rw (start-passes setup (length store) ready) in
       let code-is : code ≡ 0 = ap (λ (l : Left). l .code) made ∙ rw passes in
       record {
         good = (λ zero. rw passes, λ starts. code-is);
@@ -33,10 +34,10 @@ module _ (table store : List ℕ) (code : ℕ) (kept : Record) (words : List ℕ
         stays = λ other. absurd (other code-is);
       }
 
-  refused-told : (fault : Refused) → StartRefused table (length store) fault → StartTold table store code kept words
+  refused-told : (fault : Refused) → StartRefused setup (length store) fault → StartTold setup store code kept words
   unfolding startOf
   refused-told fault wrong =
-      let refuses : startOf table store ≡ begin store (refusedBy fault) = rw (start-refuses table (length store) fault wrong) in
+      let refuses : startOf setup store ≡ begin store (refusedBy fault) = rw (start-refuses setup (length store) fault wrong) in
       let code-is : code ≡ refusalCode fault = ap (λ (l : Left). l .code) made ∙ rw refuses in
       let above : verdictRoom ≤ refusalCode fault = start-above wrong in
       let not-good : ¬ (code ≡ 0) = λ zero. omega arith in
@@ -49,8 +50,8 @@ module _ (table store : List ℕ) (code : ℕ) (kept : Record) (words : List ℕ
       }
 
 pub start-is-the-streams : StartIsTheStreams
-start-is-the-streams table store code kept words made =
+start-is-the-streams setup store code kept words made =
     ⊎-elim
-    (ready-told table store code kept words made)
-    (λ wrong. refused-told table store code kept words made (wrong .0) (wrong .1))
-    (start-decided table (length store))
+    (ready-told setup store code kept words made)
+    (λ wrong. refused-told setup store code kept words made (wrong .0) (wrong .1))
+    (start-decided setup (length store))

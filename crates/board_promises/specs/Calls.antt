@@ -4,6 +4,7 @@ use mathlib.Core.List.{List, map}
 use mathlib.Core.Path.{_≡_}
 use Prim.Native.Nat.{ℕ}
 use Rattle.soundness.specs.declared.record.Record.{Record}
+use Rattle.soundness.specs.Setup.{Setup}
 use Rattle.monitor.specs.Step.{Call}
 use Rattle.promises.specs.Stream.{State, after, started}
 use Rattle.promises.specs.LineTimes.{replies}
@@ -15,19 +16,19 @@ abbrev pub standing : List ℕ → Record → State
 standing store found = record { found = found; store = store }
 
 -- The stream of these calls from a state.
-pub record AsStream (table : List ℕ) (s : State) (calls : List Call) (codes : List ℕ) (kept : Record) (words : List ℕ) : Type 0 where
-  pub codes-are : codes ≡ map codeOf (replies table s calls)
-  pub kept-is : kept ≡ after table s calls .found
-  pub words-are : words ≡ after table s calls .store
+pub record AsStream (setup : Setup) (s : State) (calls : List Call) (codes : List ℕ) (kept : Record) (words : List ℕ) : Type 0 where
+  pub codes-are : codes ≡ map codeOf (replies setup s calls)
+  pub kept-is : kept ≡ after setup s calls .found
+  pub words-are : words ≡ after setup s calls .store
 
 -- From a start that answered 0, and from any record and words at all. And every list of calls can be made so.
 pub record CallsAreTheStream : Type 0 where
-  pub from-start : (table lent store : List ℕ) (found : Record) (calls : List Call) (codes : List ℕ) (kept : Record) (words : List ℕ)
-      → StartLeaves table lent 0 found store
-      → Made table store found calls codes kept words
-      → AsStream table (started table lent) calls codes kept words
-  pub from-any : (table store : List ℕ) (found : Record) (calls : List Call) (codes : List ℕ) (kept : Record) (words : List ℕ)
-      → Made table store found calls codes kept words
-      → AsStream table (standing store found) calls codes kept words
-  pub all-made : (table store : List ℕ) (found : Record) (calls : List Call)
-      → (codes : List ℕ) × (kept : Record) × (words : List ℕ) × Made table store found calls codes kept words
+  pub from-start : (setup : Setup) (lent store : List ℕ) (found : Record) (calls : List Call) (codes : List ℕ) (kept : Record) (words : List ℕ)
+      → StartLeaves setup lent 0 found store
+      → Made setup store found calls codes kept words
+      → AsStream setup (started setup lent) calls codes kept words
+  pub from-any : (setup : Setup) (store : List ℕ) (found : Record) (calls : List Call) (codes : List ℕ) (kept : Record) (words : List ℕ)
+      → Made setup store found calls codes kept words
+      → AsStream setup (standing store found) calls codes kept words
+  pub all-made : (setup : Setup) (store : List ℕ) (found : Record) (calls : List Call)
+      → (codes : List ℕ) × (kept : Record) × (words : List ℕ) × Made setup store found calls codes kept words

@@ -3,14 +3,15 @@
 use mathlib.Core.List.{List, [], _∷_, _++_}
 use Prim.Native.Nat.{ℕ}
 use Rattle.soundness.specs.declared.record.Record.{Record}
-use Rattle.monitor.specs.Step.{setupOf, Call}
+use Rattle.soundness.specs.Setup.{Setup}
+use Rattle.monitor.specs.Step.{Call}
 use Rattle.board.specs.Left.{CallLeaves}
 
 -- Any list of calls, the oldest first, with their codes, the record and the words that the last one leaves: none yet, or one more after those made.
-pub data Made (table store : List ℕ) (found : Record) : (calls : List Call) (codes : List ℕ) (kept : Record) (words : List ℕ) → Type 0 where
-  none : Made table store found [] [] found store
+pub data Made (setup : Setup) (store : List ℕ) (found : Record) : (calls : List Call) (codes : List ℕ) (kept : Record) (words : List ℕ) → Type 0 where
+  none : Made setup store found [] [] found store
   more : {calls : List Call} {codes : List ℕ} {between : Record} {stand : List ℕ}
-      → Made table store found calls codes between stand
+      → Made setup store found calls codes between stand
       → (c : Call) (code : ℕ) (kept : Record) (words : List ℕ)
-      → CallLeaves (setupOf table) stand between c code kept words
-      → Made table store found (calls ++ (c ∷ [])) (codes ++ (code ∷ [])) kept words
+      → CallLeaves setup stand between c code kept words
+      → Made setup store found (calls ++ (c ∷ [])) (codes ++ (code ∷ [])) kept words

@@ -9,22 +9,23 @@ use Rattle.refusals.specs.Refusals.{Refused}
 use Rattle.rules.specs.Rows.{rowsOf}
 use Rattle.rules.specs.Stretches.{needOf}
 use Rattle.soundness.specs.declared.record.Record.{Record}
+use Rattle.soundness.specs.Setup.{Setup}
 use Rattle.soundness.specs.Record.{nothingSeen}
 use Rattle.promises.specs.Refusing.{StartRefused}
 use Rattle.promises.specs.Stream.{Starts, started}
 use Rattle.codes.specs.Code.{refusalCode}
 use Rattle.board.specs.Left.{StartLeaves}
 
-pub record StartTold (table store : List ℕ) (code : ℕ) (kept : Record) (words : List ℕ) : Type 0 where
-  pub good : (code ≡ 0) ↔ Starts table store
-  pub begins : code ≡ 0 → (kept ≡ started table store .found) × (words ≡ started table store .store)
+pub record StartTold (setup : Setup) (store : List ℕ) (code : ℕ) (kept : Record) (words : List ℕ) : Type 0 where
+  pub good : (code ≡ 0) ↔ Starts setup store
+  pub begins : code ≡ 0 → (kept ≡ started setup store .found) × (words ≡ started setup store .store)
   -- "A good start writes 0 to every word of the need", and the record has seen no event.
-  pub zeros : code ≡ 0 → (kept ≡ nothingSeen (rowsOf table)) × (words ≡ replicate (needOf table) 0 ++ drop (needOf table) store)
-  pub refused : ¬ (code ≡ 0) → (fault : Refused) × StartRefused table (length store) fault × (code ≡ refusalCode fault)
+  pub zeros : code ≡ 0 → (kept ≡ nothingSeen (rowsOf (setup .table))) × (words ≡ replicate (needOf (setup .table)) 0 ++ drop (needOf (setup .table)) store)
+  pub refused : ¬ (code ≡ 0) → (fault : Refused) × StartRefused setup (length store) fault × (code ≡ refusalCode fault)
   -- "A refused start gives an all-zero record, row count 0, store untouched."
   pub stays : ¬ (code ≡ 0) → (kept ≡ nothingSeen 0) × (words ≡ store)
 
 abbrev pub StartIsTheStreams : Type 0
-StartIsTheStreams = (table store : List ℕ) (code : ℕ) (kept : Record) (words : List ℕ)
-    → StartLeaves table store code kept words
-    → StartTold table store code kept words
+StartIsTheStreams = (setup : Setup) (store : List ℕ) (code : ℕ) (kept : Record) (words : List ℕ)
+    → StartLeaves setup store code kept words
+    → StartTold setup store code kept words

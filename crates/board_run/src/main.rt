@@ -1,5 +1,5 @@
 // Runs of events and of frames over `call_runs`, by p since [2,3] q, with heartbeats and refused calls between. Each run writes the codes of its answers, in
-// hexadecimal (a verdict is 0 or 1, a moved clock bit 31, a refusal its number and its row), then the record and the store that it left.
+// hexadecimal (a verdict is a bit for each listed row, a moved clock bit 31, a refusal its number and its row), then the record and the store that it left.
 
 use call_runs::run::run_events;
 use call_runs::run::run_frames;
@@ -18,6 +18,11 @@ const SINCE: [u32; 15] = [1, 0, 0, 0, 0, 1, 1, 0, 0, 0, 6, 0, 1, 2, 3];
 
 const KIND_9: [u32; 15] = [1, 0, 0, 0, 0, 1, 1, 0, 0, 0, 9, 0, 1, 2, 3];
 
+// Lists: of the last row, and of p and the last row.
+const LAST_ROW: [u32; 1] = [2];
+
+const BOTH: [u32; 2] = [0, 2];
+
 // The four words of the need, and one past it.
 const WORDS: usize = 5;
 
@@ -33,19 +38,30 @@ fn main() {
     say(b"-- events, one over the limit of time and one below the clock\n");
     let mut space = [9; WORDS];
     let store: &mut [u64] = &mut space;
-    let begun = start(&SINCE, store);
+    let begun = start(&SINCE, &LAST_ROW, store);
     let kept = events(
         &SINCE,
+        &LAST_ROW,
         store,
         begun.record,
         &[1, 2, 3, LIMIT + 1, 2, 4],
         &[0, Q, P, P, P, P + Q],
     );
-    say(b"-- on from there: by another table, with an unsound clock, and as it was left\n");
-    events(&KIND_9, store, kept, &[5, 6], &[P, P]);
-    events(&SINCE, store, at_clock(kept, 9), &[5, 6], &[P, P]);
-    let last = events(&SINCE, store, kept, &[5, LIMIT - 10], &[P, Q]);
-    say(b"-- frames from there, one a heartbeat and one over the limit of time\n");
+    say(
+        b"-- on from there: by another table, by a list past the table, with an unsound clock, and as it was left\n",
+    );
+    events(&KIND_9, &LAST_ROW, store, kept, &[5, 6], &[P, P]);
+    events(&SINCE, &[3], store, kept, &[5, 6], &[P, P]);
+    events(
+        &SINCE,
+        &LAST_ROW,
+        store,
+        at_clock(kept, 9),
+        &[5, 6],
+        &[P, P],
+    );
+    let last = events(&SINCE, &LAST_ROW, store, kept, &[5, LIMIT - 10], &[P, Q]);
+    say(b"-- frames from there, p judged too, one a heartbeat and one over the limit of time\n");
     frames(
         store,
         last,
@@ -76,20 +92,27 @@ fn at_clock(kept: Record, clock: u64) -> Record {
 fn begun_again(times: &[u64], masks: &[u32]) {
     let mut space = [9; WORDS];
     let store: &mut [u64] = &mut space;
-    let begun = start(&SINCE, store);
-    events(&SINCE, store, begun.record, times, masks);
+    let begun = start(&SINCE, &LAST_ROW, store);
+    events(&SINCE, &LAST_ROW, store, begun.record, times, masks);
 }
 
-fn events(table: &[u32], store: &mut [u64], found: Record, times: &[u64], masks: &[u32]) -> Record {
+fn events(
+    table: &[u32],
+    list: &[u32],
+    store: &mut [u64],
+    found: Record,
+    times: &[u64],
+    masks: &[u32],
+) -> Record {
     let mut answers = [UNWRITTEN; PLACES];
-    let kept = run_events(table, store, found, times, masks, &mut answers);
+    let kept = run_events(table, list, store, found, times, masks, &mut answers);
     told(store, kept, &answers);
     kept
 }
 
 fn frames(store: &mut [u64], found: Record, counters: &[u16], masks: &[u32]) {
     let mut answers = [UNWRITTEN; PLACES];
-    let kept = run_frames(&SINCE, store, found, counters, masks, &mut answers);
+    let kept = run_frames(&SINCE, &BOTH, store, found, counters, masks, &mut answers);
     told(store, kept, &answers);
 }
 

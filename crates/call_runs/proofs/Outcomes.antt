@@ -4,7 +4,8 @@ use mathlib.Core.Path.{_≡_, ap}
 use Prim.Native.Nat.{ℕ}
 use Rattle.meaning.proofs.OneValue.{one-value}
 use Rattle.soundness.specs.declared.record.Record.{Record}
-use Rattle.monitor.specs.Step.{Setup, Call}
+use Rattle.soundness.specs.Setup.{Setup}
+use Rattle.monitor.specs.Step.{Call}
 use Rattle.call_runs.specs.Run.{Ran, ran, RunLeaves}
 
 -- `run_events` and `run_frames`: the record, the store and the codes.

@@ -11,26 +11,24 @@ use lib.ListN.{length, getD, take, drop, set, length-set, take-append-drop, drop
 use lib.Seq.{take-suc-set, drop-set-lt, drop-cons, append-snoc}
 use borrow.Author.Tests.{ltb-true, ltb-false, lt-ltb, le-ltb}
 use Rattle.soundness.specs.declared.record.Record.{Record}
-use Rattle.monitor.specs.Step.{Setup, Call, event, frame, Outcome, stepOf}
+use Rattle.soundness.specs.Setup.{Setup}
+use Rattle.monitor.specs.declared.answer.Judged.{Judged}
+use Rattle.monitor.specs.Step.{Call, event, frame, Outcome, stepOf, said, StepGives}
 use Rattle.codes.specs.Code.{codeOf}
-use Rattle.board.specs.Left.{Left, codedOf, CallLeaves}
 use Rattle.call_runs.specs.Run.{Ran, ran, runOf, callsOf}
 use Rattle.call_runs.specs.Turns.{callAt, turnOf, turnsOf}
 
 -- One turn of the loop: the call at the place is judged from what the turns before it left, and its code is put there.
-pub one-more : (setup : Setup) (call : ℕ → Call) (start found : Ran) (place code : ℕ) (called : Call) (given : Record) (words codes : List ℕ)
+pub one-more : (setup : Setup) (call : ℕ → Call) (start found : Ran) (place code : ℕ) (called : Call) (given : Judged) (words codes : List ℕ)
     → found ≡ turnsOf setup call start place
     → called ≡ call place
-    → CallLeaves setup (found .store) (found .left) called code given words
+    → StepGives setup (found .store) (found .left) called given words
+    → code ≡ codeOf (said (given .answer))
     → codes ≡ set (found .codes) place code
-    → ran given words codes ≡ turnsOf setup call start (place + 1)
+    → ran (given .record) words codes ≡ turnsOf setup call start (place + 1)
 unfolding turnsOf turnOf
-one-more setup call start found place code called given words codes reached at judged coded =
-    let outcome : Left = codedOf (stepOf setup (found .store) (found .left) called) in
-    let code-is : code ≡ outcome .code = ap (λ (l : Left). l .code) judged in
-    let given-is : given ≡ outcome .kept = ap (λ (l : Left). l .kept) judged in
-    let words-are : words ≡ outcome .store = ap (λ (l : Left). l .store) judged in
-    rw (add-one place, ← reached, ← at, coded, code-is, given-is, words-are)
+one-more setup call start found place code called given words codes reached at judged coded put =
+    rw (add-one place, ← reached, ← at, put, coded, ← judged)
 
 -- The calls of two rows, by place.
 calls-at : (kind : ℕ → ℕ → Call) (numbers masks : List ℕ) (i : ℕ) → i < length numbers → i < length masks

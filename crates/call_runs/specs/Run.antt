@@ -3,7 +3,8 @@ use mathlib.Core.List.{List, [], _∷_}
 use mathlib.Core.Path.{_≡_}
 use Prim.Native.Nat.{ℕ}
 use Rattle.soundness.specs.declared.record.Record.{Record}
-use Rattle.monitor.specs.Step.{Setup, Call, Outcome, stepOf}
+use Rattle.soundness.specs.Setup.{Setup}
+use Rattle.monitor.specs.Step.{Call, Outcome, stepOf}
 use Rattle.codes.specs.Code.{codeOf}
 
 -- A call of each number and its mask; the shorter row decides how many. The number is an event's time or a frame's counter.

@@ -6,7 +6,8 @@ use Prim.Native.Nat.{ℕ, zero, suc}
 use lib.Dec.{ltb}
 use lib.ListN.{length, getD, set}
 use Rattle.soundness.specs.declared.record.Record.{Record}
-use Rattle.monitor.specs.Step.{Setup, Call, event, frame, Outcome, stepOf}
+use Rattle.soundness.specs.Setup.{Setup}
+use Rattle.monitor.specs.Step.{Call, event, frame, Outcome, stepOf}
 use Rattle.codes.specs.Code.{codeOf}
 use Rattle.call_runs.specs.Run.{Ran, ran}
 

@@ -2,13 +2,14 @@
 
 use crate::call::Call;
 use crate::call::judge;
+use codes::code::code;
 use rules::numbers::number_at;
 use soundness::record::Record;
 ghost use mathlib.Core.Path.{_≡_};
 ghost use Prim.Native.Nat.{min};
 ghost use lib.ListN.{set};
 ghost use Rattle.monitor.specs.Step as Step;
-ghost use Rattle.monitor.specs.Step.{setupOf};
+ghost use Rattle.soundness.specs.Setup.{setupOf};
 ghost use Rattle.call_runs.specs.Call.{callOf};
 ghost use Rattle.call_runs.specs.Run.{callsOf, RunLeaves};
 ghost use Rattle.call_runs.specs.Turns.{callAt, TurnsLeave};
@@ -16,19 +17,21 @@ ghost use Rattle.call_runs.specs.Turns.{callAt, TurnsLeave};
 // An event for each time and mask, as long as there is room for its answer's code. Gives the record left.
 pub fn run_events(
     table: &[u32],
+    list: &[u32],
     store: &mut [u64],
     found: Record,
     times: &[u64],
     masks: &[u32],
     answers: &mut [u32],
 ) -> Record
-    ensures { λ r. ⌜ RunLeaves (setupOf (now (table .entry))) found (now (store .entry)) (now (answers .entry))
+    ensures { λ r. ⌜ RunLeaves (setupOf (now (table .entry)) (now (list .entry))) found (now (store .entry)) (now (answers .entry))
         (callsOf Step.event (now (times .entry)) (now (masks .entry))) r (now (store .exit)) (now (answers .exit)) ⌝ }
 {
     let no_counters: [u16; 0] = [];
     let count = least(times.len(), least(masks.len(), answers.len()));
     run_calls(
         table,
+        list,
         store,
         found,
         times,
@@ -42,19 +45,21 @@ pub fn run_events(
 // A frame for each counter and mask, as long as there is room for its answer's code. Gives the record left.
 pub fn run_frames(
     table: &[u32],
+    list: &[u32],
     store: &mut [u64],
     found: Record,
     counters: &[u16],
     masks: &[u32],
     answers: &mut [u32],
 ) -> Record
-    ensures { λ r. ⌜ RunLeaves (setupOf (now (table .entry))) found (now (store .entry)) (now (answers .entry))
+    ensures { λ r. ⌜ RunLeaves (setupOf (now (table .entry)) (now (list .entry))) found (now (store .entry)) (now (answers .entry))
         (callsOf Step.frame (now (counters .entry)) (now (masks .entry))) r (now (store .exit)) (now (answers .exit)) ⌝ }
 {
     let no_times: [u64; 0] = [];
     let count = least(counters.len(), least(masks.len(), answers.len()));
     run_calls(
         table,
+        list,
         store,
         found,
         &no_times,
@@ -68,6 +73,7 @@ pub fn run_frames(
 // So many calls from the rows' start.
 fn run_calls(
     table: &[u32],
+    list: &[u32],
     store: &mut [u64],
     found: Record,
     times: &[u64],
@@ -76,15 +82,16 @@ fn run_calls(
     answers: &mut [u32],
     count: usize,
 ) -> Record
-    ensures { λ r. ⌜ TurnsLeave (setupOf (now (table .entry))) (callAt (now (times .entry)) (now (counters .entry)) (now (masks .entry)))
+    ensures { λ r. ⌜ TurnsLeave (setupOf (now (table .entry)) (now (list .entry))) (callAt (now (times .entry)) (now (counters .entry)) (now (masks .entry)))
         found (now (store .entry)) (now (answers .entry)) count r (now (store .exit)) (now (answers .exit)) ⌝ }
 {
     let mut kept = found;
     let mut place: usize = 0;
     while place < count {
         let call = call_at(times, counters, masks, place);
-        let judged = judge(table, store, kept, call);
-        put_code(answers, place, judged.code);
+        let judged = judge(table, list, store, kept, call);
+        let answer = judged.answer;
+        put_code(answers, place, code(answer));
         kept = judged.record;
         place += 1;
     }

@@ -1,6 +1,5 @@
 -- What a call answers, as one number of 32 bits. Bits 16 to 23 are a refusal's number, 0 where nothing is refused; bits 0 to 15 are the verdict, or the
 -- refusal's row. Bit 31 alone says that the clock moved. Bits 24 to 30 are 0: room for an offset.
-use mathlib.Core.Bool.{cond}
 use mathlib.Core.Option.{Option, none, some}
 use Prim.Native.Nat.{ℕ, _+_, _*_, _<_, _/_, _%_}
 use Rattle.refusals.specs.Refusals.{Refused, rowIn}
@@ -22,9 +21,9 @@ movedCode = 2_147_483_648
 abbrev pub refusalCode : Refused → ℕ
 refusalCode fault = fault .number * verdictRoom + rowIn fault % verdictRoom
 
--- The verdict, 0 or 1; that the clock moved; or the refusal's code.
+-- The verdict; that the clock moved; or the refusal's code.
 abbrev pub codeOf : Reply → ℕ
-codeOf (verdict holds) = cond holds 1 0
+codeOf (verdict number) = number
 codeOf clockMoved = movedCode
 codeOf (refusal fault) = refusalCode fault
 

@@ -14,17 +14,12 @@ pub const VERDICT_ROOM: u32 = 65_536;
 // "clock moved": bit 31 alone.
 pub const MOVED_CODE: u32 = 2_147_483_648;
 
-// The verdict, 0 or 1; that the clock moved; or the refusal's code.
+// The verdict; that the clock moved; or the refusal's code.
 pub fn code(answer: Answer) -> u32
     ensures { λ r. ⌜ r ≡ codeOf (said answer) ⌝ }
 {
     match answer {
-        Answer::Verdict(holds) => {
-            if holds {
-                return 1;
-            }
-            0
-        }
+        Answer::Verdict(number) => number as u32,
         Answer::ClockMoved => MOVED_CODE,
         Answer::Refused(fault) => refusal_code(fault),
     }

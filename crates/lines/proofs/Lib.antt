@@ -4,6 +4,7 @@ pub mod OverLaws
 pub mod WriteLaws
 pub mod LineLaws
 pub mod LinesLaws
+pub mod ListLaws
 pub mod ReadLaws
 pub mod AgreeLaws
 pub mod Outcomes

@@ -2,7 +2,7 @@
 -- from equal answers.
 use mathlib.Core.Bool.{Bool}
 use mathlib.Core.List.{List}
-use mathlib.Core.Path.{_≡_, refl, ap}
+use mathlib.Core.Path.{_≡_, refl, sym, ap, _∙_}
 use Prim.Native.Nat.{ℕ}
 use lib.ListN.{getD}
 use denote.Ref.{now}
@@ -11,6 +11,9 @@ use Rattle.refusals.proofs.Outcomes.{refusalOf, refusal-back}
 use Rattle.lines.specs.declared.frame.FrameRead.{FrameRead}
 use Rattle.lines.specs.declared.frame.FrameFound.{FrameFound}
 use Rattle.lines.specs.declared.frame.FrameFound.the-variants as frame
+use Rattle.lines.specs.declared.list.ListRead.{ListRead}
+use Rattle.lines.specs.declared.list.ListFound.{ListFound}
+use Rattle.lines.specs.declared.list.ListFound.the-variants as list
 use Rattle.lines.specs.declared.rule.RuleRead.{RuleRead}
 use Rattle.lines.specs.declared.rule.RuleFound.{RuleFound}
 use Rattle.lines.specs.declared.rule.RuleFound.the-variants as rule
@@ -19,6 +22,7 @@ use Rattle.lines.specs.Read.{LineReply, atEnd, goodLine, badLine, Read}
 use Rattle.lines.specs.Frame.{frameFound, frameSaid, ReadsFrame}
 use Rattle.lines.specs.declared.reader.Reader.{Reader}
 use Rattle.lines.specs.Reader.{NextFrame}
+use Rattle.lines.specs.ListLine.{numbersOf, listFound, listSaid, ReadsList}
 use Rattle.lines.specs.Rule.{ruleFound, ruleSaid, ReadsRule}
 
 abbrev frameOf : LineReply → FrameFound
@@ -41,6 +45,16 @@ rule-undone rule.End = refl
 rule-undone (rule.Rule kind x y a b) = refl
 rule-undone (rule.Refused r) = ap rule.Refused (refusal-back r)
 
+abbrev listBack : LineReply → ListFound
+listBack atEnd = list.End
+listBack (goodLine given) = list.Rows
+listBack (badLine r) = list.Refused (refusalOf r)
+
+list-undone : (f : ListFound) (given : List ℕ) → listBack (listFound f given) ≡ f
+list-undone list.End given = refl
+list-undone list.Rows given = refl
+list-undone (list.Refused r) given = ap list.Refused (refusal-back r)
+
 -- `lines::frame::read_frame`, and `lines::reader::frame_at`, which promises the same.
 pub one-frame : (text : List ℕ) (place : ℕ) (r r′ : FrameRead) → ReadsFrame text place r → ReadsFrame text place r′ → r ≡ r′
 one-frame text place =
@@ -62,6 +76,17 @@ pub one-rule : (text : List ℕ) (place : ℕ) (r r′ : RuleRead) → ReadsRule
 one-rule text place =
     one-said ruleSaid (λ (s : Read). record { found = ruleOf (s .said); next = s .next })
     (λ (r : RuleRead). ap (λ (f : RuleFound). record { found = f; next = r .next }) (rule-undone (r .found)))
+
+-- `lines::list::read_list`: what is found, the list and the place.
+pub one-list : (text : List ℕ) (place : ℕ) (r r′ : ListRead) → ReadsList text place r → ReadsList text place r′ → r ≡ r′
+one-list text place r r′ h h′ =
+    let same-said : listSaid r ≡ listSaid r′ = one-value (h .said) (h′ .said) in
+    let same-list : r .list ≡ r′ .list = one-value (h .list) (h′ .list) in
+    let same-found : r .found ≡ r′ .found =
+    sym (list-undone (r .found) (numbersOf (r .list)))
+    ∙ ap (λ (s : Read). listBack (s .said)) same-said
+    ∙ list-undone (r′ .found) (numbersOf (r′ .list)) in
+    λ i. record { found = same-found i; list = same-list i; next = same-said i .next }
 
 -- `lines::digits::write_digits`: the answer, and every byte of what was lent.
 pub one-writing : (out : List ℕ) (place n value : ℕ) (done done′ : Bool) (after after′ : List ℕ)

@@ -4,5 +4,6 @@ pub mod Line
 pub mod Lines
 pub mod Read
 pub mod Frame
+pub mod ListLine
 pub mod Rule
 pub mod Reader

@@ -3,5 +3,6 @@
 pub mod digits;
 pub mod frame;
 mod line;
+pub mod list;
 pub mod reader;
 pub mod rule;

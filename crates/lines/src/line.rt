@@ -82,7 +82,7 @@ fn sum_at(text: &[u8], place: usize, n: usize) -> u64
 }
 
 // The place past the first line feed at or after a place, or the end of the text where there is none.
-fn past_line_feed(text: &[u8], place: usize) -> usize
+pub(crate) fn past_line_feed(text: &[u8], place: usize) -> usize
     ensures { λ r. ⌜ r ≡ pastLineFeed (now (text .entry)) place ⌝ }
 {
     let mut next = place;

@@ -3,14 +3,13 @@
 ghost use Rattle.lines.specs.Rule.{ReadsRule};
 use crate::digits::hex_at;
 use crate::line::LineFound;
+use crate::line::past_line_feed;
 use crate::line::read_line;
+use crate::list::is_list_line;
 use refusals::refusal::Refusal;
 
 // Kind, x, y, a and b.
 const DATA_BYTES: usize = 11;
-
-// Two digits for each of them and for the sum, and the line feed.
-pub const LINE_BYTES: usize = 2 * DATA_BYTES + 2 + 1;
 
 pub enum RuleFound {
     // The place is at or past the end of the text.
@@ -32,10 +31,16 @@ pub struct RuleRead {
     pub next: usize,
 }
 
-// What stands at a place, judged by form and sum alone: the end, a rule, 8 or 9. Any place may be asked for.
+// What stands at a place, judged by form and sum alone: the end, a rule, 8 or 9. A list line is none and refused 8. Any place may be asked for.
 pub fn read_rule(text: &[u8], place: usize) -> RuleRead
     ensures { λ r. ⌜ ReadsRule (now (text .entry)) place r ⌝ }
 {
+    if is_list_line(text, place) {
+        return RuleRead {
+            found: RuleFound::Refused(Refusal::BadLine),
+            next: past_line_feed(text, place),
+        };
+    }
     let read = read_line(text, place, DATA_BYTES);
     let next = read.next;
     let line = read.line;

@@ -33,12 +33,15 @@ use Rattle.sound_spans.proofs.SoundTold.{SoundStretch, stretch-told}
 use Rattle.sound_spans.proofs.StretchKept.{UpdateLeaves, sound-packed, sound-ready}
 use Rattle.soundness.specs.declared.record.Record.{Record}
 use Rattle.times.specs.Times.{timeLimit}
-use Rattle.soundness.specs.Record.{wasSeen, truthAt, clockOf, eventTime, heldAt, stretchAt, spansFound}
+use Rattle.row_list.specs.RowList.{listPasses}
+use Rattle.row_list.specs.Truths.{truthAt}
+use Rattle.soundness.specs.Record.{wasSeen, clockOf, eventTime, heldAt, stretchAt, spansFound}
 use Rattle.soundness.specs.Soundness.{soundEntry?, soundLimits?, soundRow?, sound?}
 use Rattle.soundness.specs.Ready.{readyOf, refusalIn}
 use Rattle.monitor.specs.Event.{Moment, spansBy, spansAfter, truthsAfter, spansJudged, spansClipped, spansNow}
 use Rattle.monitor.specs.Core.{RowsLaid}
-use Rattle.monitor.specs.Step.{Setup, Call, timeOf, unless, refusalOf}
+use Rattle.soundness.specs.Setup.{Setup}
+use Rattle.monitor.specs.Step.{Call, timeOf, unless, refusalOf}
 use Rattle.soundness.proofs.ReadyLaws.{Ready, ready-none}
 use Rattle.monitor.proofs.EventLaws.{length-stretch, Room}
 use Rattle.monitor.proofs.ClippingLaws.{clipped-fits}
@@ -63,15 +66,29 @@ accepted setup store found call h =
     let sound : Option Refused = unless (sound? (setup .table) store found) Unsound in
     let early : Option Refused = unless (leb (timeOf (clockOf found) call) timeLimit) Late in
     let risen : Option Refused = unless (leb (clockOf found) (timeOf (clockOf found) call)) Earlier in
-    let first = or-none (refusalIn (readyOf (setup .table) (length store))) (sound orElse early orElse risen) h in
+    let first = or-none (refusalIn (readyOf setup (length store))) (sound orElse early orElse risen) h in
     let second = or-none sound (early orElse risen) (first .1) in
     let third = or-none early risen (second .1) in
     record {
-      ready = ready-none (setup .table) (length store) (first .0);
+      ready = ready-none setup (length store) (first .0) .table;
       sound = unless-none (sound? (setup .table) store found) Unsound (second .0);
       early = leb-true _ _ (unless-none (leb (timeOf (clockOf found) call) timeLimit) Late (third .0));
       risen = leb-true _ _ (unless-none (leb (clockOf found) (timeOf (clockOf found) call)) Earlier (third .1));
     }
+
+-- And the list passes.
+pub accepted-list : (setup : Setup) (store : List ℕ) (found : Record) (call : Call) → refusalOf setup store found call ≡ none
+    → listPasses (setup .list) (rowsOf (setup .table)) ≡ true
+unfolding refusalOf
+accepted-list setup store found call h =
+    let first =
+    or-none (refusalIn (readyOf setup (length store)))
+    (unless (sound? (setup .table) store found) Unsound
+    orElse unless (leb (timeOf (clockOf found) call) timeLimit) Late
+    orElse unless (leb (clockOf found) (timeOf (clockOf found) call)) Earlier)
+    h
+    in
+    ready-none setup (length store) (first .0) .listed
 
 module _ (table store : List ℕ) (found : Record) (time : ℕ) (met : Accepted table store found time) where
   module _ (row : ℕ) (lower : row < rowsOf table) where

@@ -7,10 +7,10 @@ use native.Mathlib.Nat.{eq-or-lt-of-le, le-of-suc-le-suc}
 use native.Mathlib.Omega.{arith}
 use lib.ListN.{length, getD, set, length-set}
 use lib.Seq.{getD-set-same, getD-set-other}
-use Rattle.soundness.specs.Record.{byteOf, truthAt}
+use Rattle.row_list.specs.Truths.{byteOf, truthAt}
 use Rattle.meaning.specs.Spans.{Span}
 use Rattle.monitor.specs.Event.{Moment, truthOf, truthsAfter, countsWith}
-use Rattle.soundness.proofs.RecordLaws.{byte-back}
+use Rattle.row_list.proofs.TruthsLaws.{byte-back}
 
 -- Lists that are made by setting the entry of each row in turn.
 module _ {A : Type 0} (made : ℕ → List A) (entry : ℕ → A) (next : (n : ℕ) → made (suc n) ≡ set (made n) n (entry n)) where

@@ -20,7 +20,7 @@ use Rattle.spans.specs.declared.stretch.Updated.{Updated}
 use Rattle.spans.specs.Layout.{wordsOf, packed}
 use Rattle.spans.specs.Stretch.{covered}
 use Rattle.monitor.specs.declared.event.Arrival.{Arrival}
-use Rattle.soundness.specs.Record.{truthAt}
+use Rattle.row_list.specs.Truths.{truthAt}
 use Rattle.monitor.specs.Event.{spansBy, truthBy}
 use Rattle.monitor.specs.Core.{updateIn, UpdateReady, UpdatedIn, spansAfterIn, RowReady, RowJudged}
 

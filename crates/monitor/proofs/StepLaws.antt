@@ -3,7 +3,7 @@ use mathlib.Core.Bool.{Bool, true, false, cond}
 use mathlib.Core.List.{List}
 use mathlib.Core.Option.{Option, none, some}
 use mathlib.Core.Path.{_≡_, refl, sym}
-use Prim.Native.Nat.{ℕ, _-_, _≤_, _<_}
+use Prim.Native.Nat.{ℕ, _^_, _≤_, _<_}
 use native.Mathlib.Omega.{arith}
 use lib.Dec.{leb}
 use lib.ListN.{length}
@@ -20,13 +20,33 @@ use Rattle.monitor.specs.declared.event.Arrival.{Arrival}
 use Rattle.monitor.specs.declared.answer.Answer.the-variants as Answer
 use Rattle.monitor.specs.declared.step.Told.{Told}
 use Rattle.times.specs.Times.{timeLimit}
-use Rattle.soundness.specs.Record.{byteOf, recordOf, truthAt, clockOf, eventTime}
+use Rattle.row_list.specs.RowList.{listLimit}
+use Rattle.row_list.specs.Truths.{byteOf}
+use Rattle.row_list.specs.Verdict.{verdictNumber}
+use Rattle.soundness.specs.Record.{recordOf, clockOf, eventTime}
 use Rattle.soundness.specs.Soundness.{sound?}
 use Rattle.soundness.specs.Ready.{readyOf, refusalIn}
-use Rattle.monitor.specs.Step.{Setup, setupOf, Call, event, frame, timeOf, unless, refusalOf, momentOf, Outcome, outcomeBy, stepOf, said}
+use Rattle.soundness.specs.Setup.{Setup, setupOf}
+use Rattle.monitor.specs.Step.{
+  Call,
+  event,
+  frame,
+  timeOf,
+  unless,
+  refusalOf,
+  momentOf,
+  verdictOf,
+  verdict,
+  clockMoved,
+  Outcome,
+  outcomeBy,
+  stepOf,
+  said,
+}
 use Rattle.monitor.specs.Event.{Moment, spansClipped, recordAfter}
 use Rattle.monitor.specs.Core.{moment, recordMet, SpansLeft, AfterRows, LeftIn, refusedTold}
 use Rattle.soundness.specs.Fit.{withSound, fitOf}
+use Rattle.row_list.proofs.VerdictLaws.{verdict-below}
 use Rattle.soundness.proofs.ReadyLaws.{ready-gives}
 use Rattle.soundness.proofs.SoundnessLaws.{sound-parts}
 
@@ -38,37 +58,37 @@ unfolding stepOf
 left-refused setup store e rows truths counts call fault h =
     record { replied = rw h; seen-is = rw h; clock-is = rw h; last-is = rw h; truths-are = rw h; counts-are = rw h; store-is = rw h }
 
--- 1 to 4 and 7.
+-- 1 to 3, 10, 4 and 7.
 fit-refused-by : (sound : Bool) (ready : CheckReply) (rest : Option Refused) (fault : Refused) → refusedBy fault ≡ withSound sound ready
     → (refusalIn ready orElse unless sound Unsound orElse rest) ≡ some fault
 fit-refused-by sound (refusedBy other) rest fault h = cc
 fit-refused-by true (passed rows need) rest fault h = let z : _≡_ {A = ℕ} 0 1 = cc in absurd (omega arith)
 fit-refused-by false (passed rows need) rest fault h = cc
 
-pub fit-refused : (setup : Setup) (store : List ℕ) (found : Record) (call : Call) (fault : Refused) → refusedBy fault ≡ fitOf (setup .table) store found
+pub fit-refused : (setup : Setup) (store : List ℕ) (found : Record) (call : Call) (fault : Refused) → refusedBy fault ≡ fitOf setup store found
     → refusalOf setup store found call ≡ some fault
 unfolding refusalOf fitOf
 fit-refused setup store found call fault h =
-    fit-refused-by (sound? (setup .table) store found) (readyOf (setup .table) (length store)) _ fault h
+    fit-refused-by (sound? (setup .table) store found) (readyOf setup (length store)) _ fault h
 
 -- None of them: what is left to judge by.
-pub record Fit (table store : List ℕ) (found : Record) (rows : ℕ) : Type 0 where
-  pub ready : refusalIn (readyOf table (length store)) ≡ none
-  pub counted : rows ≡ rowsOf table
-  pub sound : sound? table store found ≡ true
+pub record Fit (setup : Setup) (store : List ℕ) (found : Record) (rows : ℕ) : Type 0 where
+  pub ready : refusalIn (readyOf setup (length store)) ≡ none
+  pub counted : rows ≡ rowsOf (setup .table)
+  pub sound : sound? (setup .table) store found ≡ true
 
 fit-parts : (sound : Bool) (ready : CheckReply) (rows need : ℕ) → passed rows need ≡ withSound sound ready → (ready ≡ passed rows need) × (sound ≡ true)
 fit-parts true (passed r n) rows need h = (sym h, refl)
 fit-parts false (passed r n) rows need h = let z : _≡_ {A = ℕ} 0 1 = cc in absurd (omega arith)
 fit-parts sound (refusedBy fault) rows need h = let z : _≡_ {A = ℕ} 0 1 = cc in absurd (omega arith)
 
-pub fit-gives : (table store : List ℕ) (found : Record) (rows need : ℕ) → passed rows need ≡ fitOf table store found → Fit table store found rows
+pub fit-gives : (setup : Setup) (store : List ℕ) (found : Record) (rows need : ℕ) → passed rows need ≡ fitOf setup store found → Fit setup store found rows
 unfolding fitOf
-fit-gives table store found rows need h =
-    let parts = fit-parts (sound? table store found) (readyOf table (length store)) rows need h in
+fit-gives setup store found rows need h =
+    let parts = fit-parts (sound? (setup .table) store found) (readyOf setup (length store)) rows need h in
     record {
       ready = rw (parts .0);
-      counted = ready-gives table (length store) rows need (parts .0) .passes .counted;
+      counted = ready-gives setup (length store) rows need (parts .0) .table .passes .counted;
       sound = parts .1;
     }
 
@@ -78,7 +98,7 @@ module _
     (store : List ℕ)
     (found : Record)
     (call : Call)
-    (ready : refusalIn (readyOf (setup .table) (length store)) ≡ none)
+    (ready : refusalIn (readyOf setup (length store)) ≡ none)
     (sound : sound? (setup .table) store found ≡ true)
   where
     pub late : timeLimit < timeOf (clockOf found) call → refusalOf setup store found call ≡ some (refused Late)
@@ -123,21 +143,21 @@ frame-at setup store found counter mask = go (leb (clockOf found) timeLimit) ref
     go true h = frame-is-event setup store found counter mask
     go false h =
         rw (over-unsound (setup .table) store found (leb-false _ _ h))
-        (refused-alike setup store found _ _ (refusalIn (readyOf (setup .table) (length store))) (refused Unsound))
+        (refused-alike setup store found _ _ (refusalIn (readyOf setup (length store))) (refused Unsound))
 
--- An accepted event leaves what the rows left, and its verdict is the last row's truth.
-pub left-accepted : (table store : List ℕ) (found : Record) (time mask rows : ℕ) (truths counts after : List ℕ)
-    → refusalOf (setupOf table) store found (event time mask) ≡ none
+-- An accepted event leaves what the rows left, and its verdict has the truths of the listed ones.
+pub left-accepted : (table list store : List ℕ) (found : Record) (time mask rows : ℕ) (truths counts after : List ℕ)
+    → refusalOf (setupOf table list) store found (event time mask) ≡ none
     → rows ≡ rowsOf table
     → heartbeat? mask ≡ false
     → AfterRows (moment table store found time mask) rows truths counts after
-    → LeftIn (stepOf (setupOf table) store found (event time mask))
-    (record { answer = Answer.Verdict (truthAt truths (rows - 1)); seen = byteOf true; clock = time; last = time })
+    → LeftIn (stepOf (setupOf table list) store found (event time mask))
+    (record { answer = Answer.Verdict (verdictNumber truths list); seen = byteOf true; clock = time; last = time })
     truths
     counts
     after
 unfolding stepOf recordAfter
-left-accepted table store found time mask rows truths counts after h counted no-beat done =
+left-accepted table list store found time mask rows truths counts after h counted no-beat done =
     record {
       replied = rw (h, no-beat, done .truths-are, counted);
       seen-is = rw (h, no-beat);
@@ -149,18 +169,18 @@ left-accepted table store found time mask rows truths counts after h counted no-
     }
 
 -- An accepted heartbeat leaves the truths, and the spans clipped at its time.
-pub left-moved : (table store : List ℕ) (found : Record) (time mask rows : ℕ) (counts after : List ℕ)
-    → refusalOf (setupOf table) store found (event time mask) ≡ none
+pub left-moved : (table list store : List ℕ) (found : Record) (time mask rows : ℕ) (counts after : List ℕ)
+    → refusalOf (setupOf table list) store found (event time mask) ≡ none
     → rows ≡ rowsOf table
     → heartbeat? mask ≡ true
     → SpansLeft table store (found .counts) (spansClipped table store (found .counts) time) rows counts after
-    → LeftIn (stepOf (setupOf table) store found (event time mask))
+    → LeftIn (stepOf (setupOf table list) store found (event time mask))
     (record { answer = Answer.ClockMoved; seen = found .seen; clock = time; last = eventTime found })
     (found .truths)
     counts
     after
 unfolding stepOf recordAfter
-left-moved table store found time mask rows counts after h counted beat done =
+left-moved table list store found time mask rows counts after h counted beat done =
     record {
       replied = rw (h, beat);
       seen-is = rw (h, beat);
@@ -194,3 +214,24 @@ pub step-given : (setup : Setup) (store : List ℕ) (found : Record) (call : Cal
     → together told (found .rows) truths counts after ≡ stepOf setup store found call
 step-given setup store found call told truths counts after left =
     put-together (stepOf setup store found call) told (found .rows) truths counts after left (rows-stay setup store found call)
+
+-- The verdict of a call fits sixteen bits.
+accepted-fits : (number made : ℕ) (beat : Bool) → made < 2 ^ listLimit → cond beat clockMoved (verdict made) ≡ verdict number → number < 2 ^ listLimit
+accepted-fits number made true below said = let z : _≡_ {A = ℕ} 0 1 = cc in absurd (omega arith)
+accepted-fits number made false below said =
+    let same : made ≡ number = cc in
+    rw same at below
+
+pub verdict-fits : (setup : Setup) (store : List ℕ) (found : Record) (call : Call) (number : ℕ)
+    → stepOf setup store found call .reply ≡ verdict number
+    → number < 2 ^ listLimit
+unfolding stepOf
+verdict-fits setup store found call number said = go (refusalOf setup store found call) said
+  where
+    m : Moment
+    m = momentOf setup store found call
+
+    go : (o : Option Refused) → outcomeBy setup store found m o .reply ≡ verdict number → number < 2 ^ listLimit
+    go none said =
+        accepted-fits number (verdictOf setup (recordAfter m .truths)) (heartbeat? (m .mask)) (verdict-below (recordAfter m .truths) (setup .list)) said
+    go (some fault) said = let z : _≡_ {A = ℕ} 0 1 = cc in absurd (omega arith)

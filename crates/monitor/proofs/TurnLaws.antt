@@ -13,7 +13,8 @@ use Rattle.rules.proofs.PassedLaws.{width-most}
 use Rattle.spans.specs.declared.stretch.Held.{Held}
 use Rattle.soundness.specs.declared.record.Record.{Record}
 use Rattle.monitor.specs.declared.event.Judgement.{Judgement}
-use Rattle.soundness.specs.Record.{byteOf, stretchAt}
+use Rattle.row_list.specs.Truths.{byteOf}
+use Rattle.soundness.specs.Record.{stretchAt}
 use Rattle.monitor.specs.Event.{Moment, arrivalOf, spansAfter, truthOf, truthsAfter, spansJudged, storeWith}
 use Rattle.monitor.specs.Core.{moment, stretchIn, AfterRows, spansAfterIn, RowReady, RowJudged}
 use Rattle.monitor.proofs.RuleLaws.{good-listed}

@@ -21,9 +21,10 @@ use Rattle.monitor.specs.declared.event.Arrival.{Arrival}
 use Rattle.monitor.specs.declared.event.Judgement.{Judgement}
 use Rattle.monitor.specs.declared.step.Told.{Told}
 use Rattle.times.specs.Times.{timeLimit}
+use Rattle.soundness.specs.Setup.{Setup, setupOf}
 use Rattle.soundness.specs.Record.{heldIn, stretchAt, recordOf}
 use Rattle.monitor.specs.Event.{Moment, spansBy, truthBy, truthsAfter, spansJudged, countsWith, storeWith}
-use Rattle.monitor.specs.Step.{setupOf, event, refusalOf, Outcome, stepOf, said}
+use Rattle.monitor.specs.Step.{event, refusalOf, Outcome, stepOf, said}
 
 -- A moment by its parts.
 abbrev pub moment : (table store : List ℕ) → Record → (time mask : ℕ) → Moment
@@ -37,13 +38,17 @@ recordMet e rows truths counts = recordOf (e .seen) (e .clock) (e .last) rows tr
 abbrev pub momentMet : (table store : List ℕ) → Arrival → (rows : ℕ) (truths counts : List ℕ) → Moment
 momentMet table store e rows truths counts = moment table store (recordMet e rows truths counts) (e .time) (e .mask)
 
-abbrev pub outcomeMet : (table store : List ℕ) → Arrival → (rows : ℕ) (truths counts : List ℕ) → Outcome
-outcomeMet table store e rows truths counts =
-    stepOf (setupOf table) store (recordMet e rows truths counts) (event (e .time) (e .mask))
+abbrev pub outcomeMet : Setup → (store : List ℕ) → Arrival → (rows : ℕ) (truths counts : List ℕ) → Outcome
+outcomeMet setup store e rows truths counts =
+    stepOf setup store (recordMet e rows truths counts) (event (e .time) (e .mask))
 
-abbrev pub Unrefused : (table store : List ℕ) → Arrival → (rows : ℕ) (truths counts : List ℕ) → Type 0
-Unrefused table store e rows truths counts =
-    refusalOf (setupOf table) store (recordMet e rows truths counts) (event (e .time) (e .mask)) ≡ none
+abbrev pub Unrefused : Setup → (store : List ℕ) → Arrival → (rows : ℕ) (truths counts : List ℕ) → Type 0
+Unrefused setup store e rows truths counts =
+    refusalOf setup store (recordMet e rows truths counts) (event (e .time) (e .mask)) ≡ none
+
+-- The same with some list: the rows are judged alike, whatever is listed.
+abbrev pub UnrefusedBySome : (table store : List ℕ) → Arrival → (rows : ℕ) (truths counts : List ℕ) → Type 0
+UnrefusedBySome table store e rows truths counts = (list : List ℕ) × Unrefused (setupOf table list) store e rows truths counts
 
 -- "each since row owns its own stretch in the middle of the store": the words of a stretch, and the store with other words in their place.
 abbrev pub stretchIn : (from end : ℕ) → List ℕ → List ℕ

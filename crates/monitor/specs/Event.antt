@@ -17,7 +17,8 @@ use Rattle.spans.specs.Layout.{packed, spansHeld}
 use Rattle.spans.specs.Stretch.{covered}
 use Rattle.soundness.specs.declared.record.Record.{Record}
 use Rattle.monitor.specs.declared.event.Arrival.{Arrival}
-use Rattle.soundness.specs.Record.{byteOf, isTrue, truthAt, clockOf, eventTime, heldIn, stretchAt, spansFound}
+use Rattle.row_list.specs.Truths.{byteOf, isTrue, truthAt}
+use Rattle.soundness.specs.Record.{clockOf, eventTime, heldIn, stretchAt, spansFound}
 
 -- An event or a heartbeat, and what it meets: the table, the store and the record as they were found.
 pub record Moment : Type 0 where

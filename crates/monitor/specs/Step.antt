@@ -1,14 +1,13 @@
 -- One call, an event or a frame, a heartbeat or not: what it answers and what it leaves, for every input (document 01, "Refusal numbers" and "Lines from
--- the board"; document 02, E2).
+-- the board"; document 02, E2 and E4).
 use mathlib.Core.Bool.{Bool, true, false, cond}
 use mathlib.Core.List.{List}
 use mathlib.Core.Option.{Option, none, some}
 use mathlib.Core.Path.{_≡_}
-use Prim.Native.Nat.{ℕ, _-_}
+use Prim.Native.Nat.{ℕ}
 use lib.Dec.{leb}
 use lib.ListN.{length, getD}
 use Rattle.meaning.specs.FrameTime.{frameTime}
-use Rattle.rules.specs.Rows.{rowsOf}
 use Rattle.refusals.specs.Refusals.{Refused, refused, _orElse_}
 use Rattle.refusals.specs.declared.refusal.Refusal.{Refusal}
 use Rattle.refusals.specs.declared.refusal.Refusal.the-variants.{Earlier, Late, Unsound}
@@ -19,17 +18,12 @@ use Rattle.monitor.specs.declared.answer.Judged.{Judged}
 use Rattle.monitor.specs.declared.answer.Timed.{Timed}
 use Rattle.monitor.specs.declared.answer.Timed.the-variants as Timed
 use Rattle.times.specs.Times.{timeLimit}
-use Rattle.soundness.specs.Record.{truthAt, clockOf}
+use Rattle.row_list.specs.Verdict.{verdictNumber}
+use Rattle.soundness.specs.Record.{clockOf}
 use Rattle.soundness.specs.Soundness.{sound?}
+use Rattle.soundness.specs.Setup.{Setup}
 use Rattle.soundness.specs.Ready.{readyOf, refusalIn}
 use Rattle.monitor.specs.Event.{Moment, heartbeatElse, storeAfter, recordAfter}
-
--- What is judged by: today the table alone.
-pub record Setup : Type 0 where
-  pub table : List ℕ
-
-abbrev pub setupOf : List ℕ → Setup
-setupOf table = record { table = table }
 
 -- An event has its time; a frame has a counter, and the time that this shows since the clock.
 pub data Call : Type 0 where
@@ -54,11 +48,11 @@ abbrev pub unless : Bool → Refusal → Option Refused
 unless true refusal = none
 unless false refusal = some (refused refusal)
 
--- "an event uses 1 to 4, then 7, 6, 5": "record not sound", "time over 281,474,976,710,655", time below the clock ("Refusal 5 and line times compare with
--- the clock"). A heartbeat is refused like any call.
+-- "an event uses 1 to 4, then 7, 6, 5", with 10 "after 3 and before 4": "record not sound", "time over 281,474,976,710,655", time below the clock ("Refusal
+-- 5 and line times compare with the clock"). A heartbeat is refused like any call.
 unfoldable pub refusalOf : Setup → List ℕ → Record → Call → Option Refused
 refusalOf setup store found call =
-    refusalIn (readyOf (setup .table) (length store))
+    refusalIn (readyOf setup (length store))
     orElse unless (sound? (setup .table) store found) Unsound
     orElse unless (leb (timeOf (clockOf found) call) timeLimit) Late
     orElse unless (leb (clockOf found) (timeOf (clockOf found) call)) Earlier
@@ -68,13 +62,13 @@ abbrev pub momentOf : Setup → List ℕ → Record → Call → Moment
 momentOf setup store found call =
     record { table = setup .table; store = store; found = found; time = timeOf (clockOf found) call; mask = maskOf call }
 
--- "the last is the formula judged".
-abbrev pub verdictOf : Setup → List ℕ → Bool
-verdictOf setup truths = truthAt truths (rowsOf (setup .table) - 1)
+-- "one number whose bit k is the verdict of the k-th listed row (k from 0), other bits 0".
+abbrev pub verdictOf : Setup → List ℕ → ℕ
+verdictOf setup truths = verdictNumber truths (setup .list)
 
 -- "the answer is either a verdict or a numbered refusal", or "a third one, 'clock moved'"; and the record and the store that stand beside it.
 pub data Reply : Type 0 where
-  verdict : Bool → Reply
+  verdict : ℕ → Reply
   clockMoved : Reply
   refusal : Refused → Reply
 
@@ -98,7 +92,7 @@ stepOf setup store found call =
 
 -- What an answer says, with the record beside it and the store at exit.
 abbrev pub said : Answer → Reply
-said (Answer.Verdict holds) = verdict holds
+said (Answer.Verdict number) = verdict number
 said Answer.ClockMoved = clockMoved
 said (Answer.Refused fault) = refusal (refused fault)
 

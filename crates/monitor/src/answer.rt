@@ -3,9 +3,10 @@
 use refusals::refusal::Refusal;
 use soundness::record::Record;
 
-// The answer to a call: an event's verdict, that a heartbeat moved the clock, or a refusal with its number and row.
+// The answer to a call: an event's verdict, whose bit k is the truth of the k-th listed row; that a heartbeat moved the clock; or a refusal with its
+// number and row.
 pub enum Answer {
-    Verdict(bool),
+    Verdict(u16),
     ClockMoved,
     Refused(Refusal),
 }
@@ -16,7 +17,7 @@ pub struct Judged {
     pub record: Record,
 }
 
-// The answer to a start: good, with the words of the need, or a refusal 1 to 4.
+// The answer to a start: good, with the words of the need, or a refusal 1 to 3, 10 or 4.
 pub enum StartAnswer {
     Good { need: u64 },
     Refused(Refusal),

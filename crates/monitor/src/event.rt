@@ -29,9 +29,10 @@ ghost use Rattle.rules.specs.Limits.{rowLimit};
 ghost use Rattle.rules.specs.Rows.{rowsOf, ruleOf, keptBy, feeder, taken};
 ghost use Rattle.spans.specs.Layout.{endAt};
 ghost use Rattle.times.specs.Times.{timeLimit};
-ghost use Rattle.soundness.specs.Record.{truthAt, heldOf};
+ghost use Rattle.row_list.specs.Truths.{truthAt};
+ghost use Rattle.soundness.specs.Record.{heldOf};
 ghost use Rattle.monitor.specs.Event.{previousHeld, truthBy};
-ghost use Rattle.monitor.specs.Core.{Unrefused, momentMet, UpdateReady, UpdatedIn, AfterRows, RowReady, RowJudged};
+ghost use Rattle.monitor.specs.Core.{UnrefusedBySome, momentMet, UpdateReady, UpdatedIn, AfterRows, RowReady, RowJudged};
 
 // A call, and what the record tells of those before it: the clock, by which no row is judged; whether an event was seen, and its time. Each row's truth at
 // that event is lent beside this.
@@ -60,7 +61,7 @@ pub(crate) fn judge_rows(
     truths: &mut [u8; ROW_LIMIT],
     counts: &mut [u32; ROW_LIMIT],
 )
-    requires { ⌜ Unrefused (now table) (now store) arrival rows (now found) (now counts) ⌝ }
+    requires { ⌜ UnrefusedBySome (now table) (now store) arrival rows (now found) (now counts) ⌝ }
     requires { ⌜ (rows ≡ rowsOf (now table)) × (now truths ≡ now found) ⌝ }
     ensures { λ r. ⌜ AfterRows (momentMet (now (table .entry)) (now (store .entry)) arrival rows (now (found .entry)) (now (counts .entry)))
         rows (now (truths .exit)) (now (counts .exit)) (now (store .exit)) ⌝ }

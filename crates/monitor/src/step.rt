@@ -8,6 +8,7 @@ use crate::event::judge_rows;
 use crate::frame_time::time_shown;
 use crate::heartbeat::clip_rows;
 use refusals::refusal::Refusal;
+use row_list::verdict::verdict;
 use rules::limits::ROW_LIMIT;
 use rules::table::Checked;
 use soundness::fit::fit;
@@ -23,12 +24,20 @@ ghost use Rattle.rules.specs.Rows.{rowsOf};
 ghost use Rattle.monitor.specs.Core.{recordMet, outcomeMet, Unrefused, LeftIn, refusedTold};
 ghost use Rattle.soundness.specs.Record.{recordOf};
 ghost use Rattle.soundness.specs.Soundness.{sound?};
+ghost use Rattle.soundness.specs.Setup.{setupOf};
 ghost use Rattle.soundness.specs.Ready.{readyOf, refusalIn};
-ghost use Rattle.monitor.specs.Step.{setupOf, event, frame, StepGives};
+ghost use Rattle.monitor.specs.Step.{event, frame, StepGives};
 
-// The verdict on an event, that a heartbeat moved the clock, or a refusal 1 to 4, 7, 6 or 5, with the record after it. No word past the need is written.
-pub fn event(table: &[u32], store: &mut [u64], found: Record, time: u64, mask: u32) -> Judged
-    ensures { λ r. ⌜ StepGives (setupOf (now (table .entry))) (now (store .entry)) found (event time mask) r (now (store .exit)) ⌝ }
+// The verdict on an event, that a heartbeat moved the clock, or a refusal 1 to 3, 10, 4, 7, 6 or 5, with the record after it. No word past the need is written.
+pub fn event(
+    table: &[u32],
+    list: &[u32],
+    store: &mut [u64],
+    found: Record,
+    time: u64,
+    mask: u32,
+) -> Judged
+    ensures { λ r. ⌜ StepGives (setupOf (now (table .entry)) (now (list .entry))) (now (store .entry)) found (event time mask) r (now (store .exit)) ⌝ }
 {
     let arrival = Arrival {
         time,
@@ -40,14 +49,21 @@ pub fn event(table: &[u32], store: &mut [u64], found: Record, time: u64, mask: u
     let mut truths = found.truths;
     let mut counts = found.counts;
     let rows = found.rows;
-    let told = judge(table, store, arrival, rows, &mut truths, &mut counts);
+    let told = judge(table, list, store, arrival, rows, &mut truths, &mut counts);
     give(told, rows, truths, counts)
 }
 
 // The same for a frame, at the time that its counter shows. A refused frame does not move the time. It does not call `event`: that would copy the record
 // once more, and double the stack.
-pub fn frame(table: &[u32], store: &mut [u64], found: Record, counter: u16, mask: u32) -> Judged
-    ensures { λ r. ⌜ StepGives (setupOf (now (table .entry))) (now (store .entry)) found (frame counter mask) r (now (store .exit)) ⌝ }
+pub fn frame(
+    table: &[u32],
+    list: &[u32],
+    store: &mut [u64],
+    found: Record,
+    counter: u16,
+    mask: u32,
+) -> Judged
+    ensures { λ r. ⌜ StepGives (setupOf (now (table .entry)) (now (list .entry))) (now (store .entry)) found (frame counter mask) r (now (store .exit)) ⌝ }
 {
     let clock = found.clock;
     let arrival = Arrival {
@@ -60,7 +76,7 @@ pub fn frame(table: &[u32], store: &mut [u64], found: Record, counter: u16, mask
     let mut truths = found.truths;
     let mut counts = found.counts;
     let rows = found.rows;
-    let told = judge(table, store, arrival, rows, &mut truths, &mut counts);
+    let told = judge(table, list, store, arrival, rows, &mut truths, &mut counts);
     give(told, rows, truths, counts)
 }
 
@@ -72,20 +88,22 @@ pub(crate) struct Told {
     pub(crate) last: u64,
 }
 
-// Refusals 1 to 4 and 7, then what a sound record is answered.
+// Refusals 1 to 3, 10, 4 and 7, then what a sound record is answered.
 fn judge(
     table: &[u32],
+    list: &[u32],
     store: &mut [u64],
     arrival: Arrival,
     count: u32,
     truths: &mut [u8; ROW_LIMIT],
     counts: &mut [u32; ROW_LIMIT],
 ) -> Told
-    ensures { λ r. ⌜ LeftIn (outcomeMet (now (table .entry)) (now (store .entry)) arrival count (now (truths .entry)) (now (counts .entry)))
+    ensures { λ r. ⌜ LeftIn (outcomeMet (setupOf (now (table .entry)) (now (list .entry))) (now (store .entry)) arrival count (now (truths .entry)) (now (counts .entry)))
         r (now (truths .exit)) (now (counts .exit)) (now (store .exit)) ⌝ }
 {
     let checked = fit(
         table,
+        list,
         store,
         arrival.seen,
         arrival.clock,
@@ -98,6 +116,7 @@ fn judge(
         Checked::Refused(refusal) => refused(refusal, arrival),
         Checked::Passed { rows, need: _ } => judge_sound(
             table,
+            list,
             store,
             rows as usize,
             arrival,
@@ -110,15 +129,16 @@ fn judge(
 // Of a sound record: 6 and 5, then the clock or the rows.
 fn judge_sound(
     table: &[u32],
+    list: &[u32],
     store: &mut [u64],
     rows: usize,
     arrival: Arrival,
     truths: &mut [u8; ROW_LIMIT],
     counts: &mut [u32; ROW_LIMIT],
 ) -> Told
-    requires { ⌜ (refusalIn (readyOf (now table) (length (now store))) ≡ none) × (rows ≡ rowsOf (now table)) ⌝ }
+    requires { ⌜ (refusalIn (readyOf (setupOf (now table) (now list)) (length (now store))) ≡ none) × (rows ≡ rowsOf (now table)) ⌝ }
     requires { ⌜ sound? (now table) (now store) (recordMet arrival rows (now truths) (now counts)) ≡ true ⌝ }
-    ensures { λ r. ⌜ LeftIn (outcomeMet (now (table .entry)) (now (store .entry)) arrival rows (now (truths .entry)) (now (counts .entry)))
+    ensures { λ r. ⌜ LeftIn (outcomeMet (setupOf (now (table .entry)) (now (list .entry))) (now (store .entry)) arrival rows (now (truths .entry)) (now (counts .entry)))
         r (now (truths .exit)) (now (counts .exit)) (now (store .exit)) ⌝ }
 {
     if TIME_LIMIT < arrival.time {
@@ -136,27 +156,28 @@ fn judge_sound(
             last: arrival.last,
         };
     }
-    accept(table, store, rows, arrival, truths, counts)
+    accept(table, list, store, rows, arrival, truths, counts)
 }
 
-// An event: the rows are judged beside a copy of the found truths; the last row's truth is the verdict.
+// An event: the rows are judged beside a copy of the found truths; those of the listed rows are the verdict.
 fn accept(
     table: &[u32],
+    list: &[u32],
     store: &mut [u64],
     rows: usize,
     arrival: Arrival,
     truths: &mut [u8; ROW_LIMIT],
     counts: &mut [u32; ROW_LIMIT],
 ) -> Told
-    requires { ⌜ Unrefused (now table) (now store) arrival rows (now truths) (now counts) ⌝ }
+    requires { ⌜ Unrefused (setupOf (now table) (now list)) (now store) arrival rows (now truths) (now counts) ⌝ }
     requires { ⌜ (rows ≡ rowsOf (now table)) × (heartbeat? (arrival .mask) ≡ false) ⌝ }
-    ensures { λ r. ⌜ LeftIn (outcomeMet (now (table .entry)) (now (store .entry)) arrival rows (now (truths .entry)) (now (counts .entry)))
+    ensures { λ r. ⌜ LeftIn (outcomeMet (setupOf (now (table .entry)) (now (list .entry))) (now (store .entry)) arrival rows (now (truths .entry)) (now (counts .entry)))
         r (now (truths .exit)) (now (counts .exit)) (now (store .exit)) ⌝ }
 {
     let found = *truths;
     judge_rows(table, store, rows, arrival, &found, truths, counts);
     Told {
-        answer: Answer::Verdict(truths[rows - 1] == 1),
+        answer: Answer::Verdict(verdict(truths, list)),
         seen: 1,
         clock: arrival.time,
         last: arrival.time,

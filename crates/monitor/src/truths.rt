@@ -4,7 +4,7 @@ use rules::limits::ROW_LIMIT;
 ghost use mathlib.Core.Path.{_≡_};
 ghost use Prim.Native.Nat.{_<_};
 ghost use Rattle.rules.specs.Limits.{rowLimit};
-ghost use Rattle.soundness.specs.Record.{byteOf, truthAt};
+ghost use Rattle.row_list.specs.Truths.{byteOf, truthAt};
 
 // A row's truth.
 pub(crate) fn truth_at(truths: &[u8; ROW_LIMIT], row: u32) -> bool

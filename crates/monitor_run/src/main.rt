@@ -1,6 +1,6 @@
 // Runs what the documents want compared and the text program cannot show: the spans after each event and heartbeat, stores, records and times that no
-// frame reaches, the reader. After each call stand its answer, the record's clock, its last event's time and row count, and the store. p is bit 0 and q
-// is bit 1 of the mask.
+// frame reaches, lists that change between calls, the reader. After each call stand its answer, the record's clock, its last event's time and row count,
+// and the store. p is bit 0 and q is bit 1 of the mask. The list has the table's last row alone where nothing else is said.
 
 use libc::STDOUT_FILENO;
 use lines::frame::FrameFound;
@@ -72,6 +72,14 @@ const ONCE_TWO: [u32; 15] = [1, 0, 0, 0, 0, 0, 0, 0, 0, 0, 6, 1, 0, 2, 2];
 
 const ONCE_EVER: [u32; 15] = [1, 0, 0, 0, 0, 0, 0, 0, 0, 0, 6, 1, 0, 1000, NO_END];
 
+// The last of three rows.
+const THIRD: [u32; 1] = [2];
+
+// The first sixteen rows, and one more than a list may have.
+const SIXTEEN: [u32; 16] = [0, 1, 2, 3, 4, 5, 6, 7, 8, 9, 10, 11, 12, 13, 14, 15];
+
+const SEVENTEEN: [u32; 17] = [0, 1, 2, 3, 4, 5, 6, 7, 8, 9, 10, 11, 12, 13, 14, 15, 16];
+
 fn main() {
     tables();
     spans();
@@ -79,6 +87,9 @@ fn main() {
     stores();
     records();
     clocks();
+    lists();
+    refused_lists();
+    other_lists();
     reader(b"00020000000103\n00ab00000000ab\n00050000000006\n0007000000000");
 }
 
@@ -87,26 +98,26 @@ fn tables() {
     say(b"-- Table 3: once [1,2] of once [1,2] of (p or q)\n");
     let mut table = [0; 30];
     put_rows(&ONCE_ONCE, &mut table);
-    stream(&table, &[1, 2, 3, 4, 5, 6], &[P, 0, 0, 0, Q, 0]);
+    stream(&table, &[5], &[1, 2, 3, 4, 5, 6], &[P, 0, 0, 0, Q, 0]);
     say(b"-- Table 3, by rows of kind 7\n");
     let mut table = [0; 25];
     put_rows(&ONCE_ROWS, &mut table);
-    stream(&table, &[1, 2, 3, 4, 5, 6], &[P, 0, 0, 0, Q, 0]);
+    stream(&table, &[4], &[1, 2, 3, 4, 5, 6], &[P, 0, 0, 0, Q, 0]);
     say(b"-- Table 4: always [1,2] p\n");
     let mut table = [0; 25];
     put_rows(&ALWAYS, &mut table);
-    stream(&table, &[1, 2, 3, 4, 5, 6], &[0, 0, P, P, P, 0]);
+    stream(&table, &[4], &[1, 2, 3, 4, 5, 6], &[0, 0, P, P, P, 0]);
     say(b"-- Table 4, by a row of kind 8\n");
-    stream(&ALWAYS_ROW, &[1, 2, 3, 4, 5, 6], &[0, 0, P, P, P, 0]);
+    stream(&ALWAYS_ROW, &[1], &[1, 2, 3, 4, 5, 6], &[0, 0, P, P, P, 0]);
     say(b"-- Table 5: p since [2,3] q\n");
-    stream(&SINCE, &[1, 2, 3, 4, 5, 6], &[0, Q, P, P, P + Q, P]);
+    stream(&SINCE, &THIRD, &[1, 2, 3, 4, 5, 6], &[0, Q, P, P, P + Q, P]);
 }
 
 fn spans() {
     say(b"-- once [2,2] p, p at 0 and 2\n");
-    stream(&ONCE_TWO, &[0, 2, 4, 5], &[P, P, 0, 0]);
+    stream(&ONCE_TWO, &THIRD, &[0, 2, 4, 5], &[P, P, 0, 0]);
     say(b"-- once [1000, no end] p\n");
-    stream(&ONCE_EVER, &[0, 999, 1000, LAST], &[P, P, 0, 0]);
+    stream(&ONCE_EVER, &THIRD, &[0, 999, 1000, LAST], &[P, P, 0, 0]);
 }
 
 // A heartbeat clips the spans and moves the clock; its other bits are ignored, and what the record tells of the last event stays. Refusal 5 compares
@@ -115,19 +126,20 @@ fn heartbeats() {
     say(b"-- p since [2,3] q, and heartbeats\n");
     stream(
         &SINCE,
+        &THIRD,
         &[2, 5, 6, 8, 8, 9, 8],
         &[Q, P + Q, HEARTBEAT, HEARTBEAT + Q, P, HEARTBEAT, HEARTBEAT],
     );
     say(b"-- p since [2,3] q, a heartbeat before any event\n");
-    stream(&SINCE, &[5, 4, 5, 6], &[HEARTBEAT, Q, Q, HEARTBEAT]);
+    stream(&SINCE, &THIRD, &[5, 4, 5, 6], &[HEARTBEAT, Q, Q, HEARTBEAT]);
 }
 
 fn stores() {
     say(b"-- once [2,2] p on need - 1 words, and on need words\n");
     let mut short = [9; 3];
-    begin(&ONCE_TWO, &mut short);
+    begin(&ONCE_TWO, &THIRD, &mut short);
     let mut enough = [9; 4];
-    begin(&ONCE_TWO, &mut enough);
+    begin(&ONCE_TWO, &THIRD, &mut enough);
 }
 
 // At 10 neither p nor q and still a span, and the clock at 11: sound, but never reached. With the event at 9 the span's last would be too late.
@@ -141,12 +153,19 @@ fn records() {
     kept.clock = 11;
     kept.last = 10;
     kept.counts[2] = 1;
-    call(&SINCE, store, at_times(kept, 11, 9), 11, P);
-    let went = run(&SINCE, store, kept, &[11, 13], &[P, P + Q]);
-    call(&CUT, store, went, 14, P);
-    call(&SIX_WORDS, store, went, 14, P);
-    call(&SINCE, store, kept, 14, P);
-    run(&SINCE, store, went, &[LATE, 12, 14, 15], &[P, P, P, Q]);
+    call(&SINCE, &THIRD, store, at_times(kept, 11, 9), 11, P);
+    let went = run(&SINCE, &THIRD, store, kept, &[11, 13], &[P, P + Q]);
+    call(&CUT, &THIRD, store, went, 14, P);
+    call(&SIX_WORDS, &THIRD, store, went, 14, P);
+    call(&SINCE, &THIRD, store, kept, 14, P);
+    run(
+        &SINCE,
+        &THIRD,
+        store,
+        went,
+        &[LATE, 12, 14, 15],
+        &[P, P, P, Q],
+    );
 }
 
 // A span without end from 2000. Not sound: the last event after the clock; the first above clock and event time + a; the first below the clock. Sound:
@@ -158,16 +177,82 @@ fn clocks() {
     let mut kept = nothing_seen(3);
     kept.seen = 1;
     kept.counts[2] = 1;
-    call(&ONCE_EVER, store, at_times(kept, 2000, 2001), 2001, 0);
-    call(&ONCE_EVER, store, at_times(kept, 1999, 10), 2001, 0);
-    call(&ONCE_EVER, store, at_times(kept, 2001, 10), 2001, 0);
-    call(&ONCE_EVER, store, at_times(kept, 2000, 10), 2001, 0);
+    call(
+        &ONCE_EVER,
+        &THIRD,
+        store,
+        at_times(kept, 2000, 2001),
+        2001,
+        0,
+    );
+    call(&ONCE_EVER, &THIRD, store, at_times(kept, 1999, 10), 2001, 0);
+    call(&ONCE_EVER, &THIRD, store, at_times(kept, 2001, 10), 2001, 0);
+    call(&ONCE_EVER, &THIRD, store, at_times(kept, 2000, 10), 2001, 0);
     say(b"-- once [1000, no end] p, from a clock with no event seen\n");
     let mut space = [0, 0];
     let store: &mut [u64] = &mut space;
     let unseen = nothing_seen(3);
-    call(&ONCE_EVER, store, at_times(unseen, 2000, 1), 2001, P);
-    call(&ONCE_EVER, store, at_times(unseen, 2000, 0), 2001, P);
+    call(
+        &ONCE_EVER,
+        &THIRD,
+        store,
+        at_times(unseen, 2000, 1),
+        2001,
+        P,
+    );
+    call(
+        &ONCE_EVER,
+        &THIRD,
+        store,
+        at_times(unseen, 2000, 0),
+        2001,
+        P,
+    );
+}
+
+// Two rows judged at once, p and the last; sixteen, all of them true; seventeen, which are refused.
+fn lists() {
+    say(b"-- p since [2,3] q, p judged beside it\n");
+    stream(
+        &SINCE,
+        &[0, 2],
+        &[1, 2, 3, 4, 5, 6],
+        &[0, Q, P, P, P + Q, P],
+    );
+    say(b"-- true in 17 rows, 16 of them judged, and 17\n");
+    let table = [0; 17 * ROW_NUMBERS];
+    stream(&table, &SIXTEEN, &[1], &[0]);
+    stream(&table, &SEVENTEEN, &[1], &[0]);
+}
+
+// Refusal 10; refusal 1 is before it, and 4 after it.
+fn refused_lists() {
+    say(
+        b"-- p since [2,3] q, starts: no row, two that do not rise, the same twice, one past the table\n",
+    );
+    let mut space = [9; 5];
+    let store: &mut [u64] = &mut space;
+    begin(&SINCE, &[], store);
+    begin(&SINCE, &[2, 0], store);
+    begin(&SINCE, &[2, 2], store);
+    begin(&SINCE, &[3], store);
+    say(b"-- no row, of a table cut short, and on too few words\n");
+    begin(&CUT, &[], store);
+    begin(&SIX_WORDS, &[], store);
+}
+
+// The record and the store hold every row, so each call may have a list of its own; one that does not pass changes nothing.
+fn other_lists() {
+    say(b"-- p since [2,3] q, by another list with each call\n");
+    let mut space = [9; 5];
+    let store: &mut [u64] = &mut space;
+    let begun = begin(&SINCE, &THIRD, store);
+    let two = run(&SINCE, &THIRD, store, begun, &[1, 2], &[0, Q]);
+    let three = call(&SINCE, &[0, 1], store, two, 3, P);
+    let none = call(&SINCE, &[], store, three, 4, P);
+    let four = call(&SINCE, &[0, 1, 2], store, none, 4, P);
+    call(&SINCE, &[2, 3], store, four, 5, P);
+    run(&SINCE, &THIRD, store, four, &[5, 6], &[P + Q, P]);
 }
 
 // The record with other times, which its spans need not fit.
@@ -190,11 +275,11 @@ fn reader(text: &[u8]) {
 }
 
 // A start on words that hold 9, and calls.
-fn stream(table: &[u32], times: &[u64], masks: &[u32]) {
+fn stream(table: &[u32], list: &[u32], times: &[u64], masks: &[u32]) {
     let mut space = [9; 5];
     let store: &mut [u64] = &mut space;
-    let begun = begin(table, store);
-    run(table, store, begun, times, masks);
+    let begun = begin(table, list, store);
+    run(table, list, store, begun, times, masks);
 }
 
 // The numbers of the rows, one after the other.
@@ -209,9 +294,9 @@ fn put_rows(rows: &[[u32; ROW_NUMBERS]], table: &mut [u32]) {
     }
 }
 
-fn begin(table: &[u32], store: &mut [u64]) -> Record {
+fn begin(table: &[u32], list: &[u32], store: &mut [u64]) -> Record {
     say(b"start");
-    let started = start(table, store);
+    let started = start(table, list, store);
     let answer = started.answer;
     match answer {
         StartAnswer::Good { need } => labelled(b": need ", need),
@@ -222,23 +307,37 @@ fn begin(table: &[u32], store: &mut [u64]) -> Record {
 }
 
 // A call at each time.
-fn run(table: &[u32], store: &mut [u64], found: Record, times: &[u64], masks: &[u32]) -> Record {
+fn run(
+    table: &[u32],
+    list: &[u32],
+    store: &mut [u64],
+    found: Record,
+    times: &[u64],
+    masks: &[u32],
+) -> Record {
     let mut kept = found;
     let mut i = 0;
     while i < times.len() {
-        kept = call(table, store, kept, times[i], number_at(masks, i));
+        kept = call(table, list, store, kept, times[i], number_at(masks, i));
         i += 1;
     }
     kept
 }
 
-fn call(table: &[u32], store: &mut [u64], found: Record, time: u64, mask: u32) -> Record {
+fn call(
+    table: &[u32],
+    list: &[u32],
+    store: &mut [u64],
+    found: Record,
+    time: u64,
+    mask: u32,
+) -> Record {
     labelled(b"event ", time);
     labelled(b", mask ", mask as u64);
-    let judged = step::event(table, store, found, time, mask);
+    let judged = step::event(table, list, store, found, time, mask);
     let answer = judged.answer;
     match answer {
-        Answer::Verdict(holds) => labelled(b": verdict ", holds as u64),
+        Answer::Verdict(number) => labelled(b": verdict ", number as u64),
         Answer::ClockMoved => moved(judged.record),
         Answer::Refused(why) => refusal_told(why),
     }

@@ -31,7 +31,8 @@ use Rattle.rules.specs.declared.numbers.Numbers.{Numbers}
 use Rattle.rules.proofs.RowFitsLaws.{PlainNames, KeeperLower, Names}
 use Rattle.rules.proofs.PassedLaws.{range-order, passed-formula}
 use Rattle.times.specs.Times.{timeLimit}
-use Rattle.soundness.specs.Record.{wasSeen, truthAt, clockOf, eventTime}
+use Rattle.row_list.specs.Truths.{truthAt}
+use Rattle.soundness.specs.Record.{wasSeen, clockOf, eventTime}
 use Rattle.spans.proofs.CoverLaws.{covered-told}
 use Rattle.monitor.proofs.EventLaws.{Room, length-store}
 use Rattle.monitor.proofs.RisingLaws.{truth-told}

@@ -28,6 +28,7 @@ use Rattle.rules.specs.RowFormula.{below, formulaOf}
 use Rattle.rules.specs.Table.{lengthPasses, rowPasses, limitsPass, faultOf, firstFault, passed, checkOf}
 use Rattle.rules.proofs.PassedLaws.{range-cases, range-order}
 use Rattle.times.specs.Times.{timeLimit}
+use Rattle.soundness.specs.Setup.{Setup, setupOf}
 use Rattle.soundness.specs.Ready.{readyOf}
 use Rattle.monitor.specs.Start.{startOf}
 use Rattle.monitor.specs.Step.{Call, event}
@@ -37,6 +38,7 @@ use Rattle.promises.specs.Spans.{RowRuns}
 use Rattle.promises.specs.Room.{pulsesAt, AllKept, Filled, RunsFill, FigureIsReached}
 use Rattle.promises.proofs.StreamLaws.{kept-append}
 use Rattle.promises.proofs.TableTold.{limits-told}
+use Rattle.promises.proofs.ListTold.{list-told, alone-right}
 use Rattle.promises.proofs.StretchTold.{in-range-of}
 use Rattle.promises.proofs.Spans.{spans-are-the-runs}
 
@@ -163,17 +165,27 @@ module _
     → RowRuns table row columns h time S
     → Runs (Holds truth) (Holds (bit 0)) a (endOf b) h time S)
   where
-    starts : (store : List ℕ) → length store ≡ needOf table → Starts table store
+    -- The row alone is listed.
+    abbrev setup : Setup
+    setup = setupOf table (row ∷ [])
+
+    starts : (store : List ℕ) → length store ≡ needOf table → Starts setup store
     unfolding startOf readyOf
-    starts store exactly = rw (passes, exactly, le-leb (needOf table) (needOf table) (omega arith))
+    starts store exactly =
+        rw (
+          passes,
+          told-true (list-told table (row ∷ [])) (alone-right table row inside),
+          exactly,
+          le-leb (needOf table) (needOf table) (omega arith),
+        )
 
     full : (store : List ℕ)
         → length store ≡ needOf table
-        → getD (state table store (fillingCalls a b) .found .counts) row 0 ≡ figure a (endOf b)
+        → getD (state setup store (fillingCalls a b) .found .counts) row 0 ≡ figure a (endOf b)
     unfolding runs-fill
     full store exactly =
         let calls = fillingCalls a b in
-        let held = spans-are-the-runs table store (starts store exactly) calls row columns inside rule in
+        let held = spans-are-the-runs setup store (starts store exactly) calls row columns inside rule in
         let all = runs-fill a b limits in
         held .laid .counted
         ∙ ap length
@@ -185,6 +197,7 @@ module _
     filled of-kind from to =
         record {
           table = table;
+          list = row ∷ [];
           row = row;
           inside = inside;
           of-kind = of-kind;

@@ -11,14 +11,16 @@ use Rattle.meaning.specs.History.{Event, lastTime}
 use Rattle.meaning.specs.Heartbeat.{trueEvents}
 use Rattle.meaning.proofs.FrameTimeLaws.{true-close, next-true}
 use Rattle.times.specs.Times.{timeLimit}
+use Rattle.soundness.specs.Setup.{Setup}
 use Rattle.monitor.specs.Step.{Call, event, frame, timeOf, Reply}
 use Rattle.soundness.specs.Record.{clockOf}
 use Rattle.promises.specs.Stream.{State, call, next, started, accepted?, Keeps, keeps?, eventOf, kept}
 use Rattle.promises.specs.LineTimes.{replies, recordTimes, Every, acceptedTimes}
 use Rattle.promises.specs.FrameTimes.{frameCounters, ofFrames, FrameTimesAreTrue}
+use Rattle.promises.specs.Conditions.{ListRight}
 use Rattle.promises.proofs.Invariant.{Invariant}
 use Rattle.promises.proofs.StreamLaws.{keeps-cases}
-use Rattle.promises.proofs.StartRight.{start-right}
+use Rattle.promises.proofs.StartRight.{start-ready, start-right}
 use Rattle.promises.proofs.CallKept.{kept-accepted, only-kept, next-kept}
 
 -- Call by call, the counter of a frame is that of its true time.
@@ -73,14 +75,15 @@ heard-kept h c keeps =
     (λ within below. absurd (omega (arith, keeps .risen)))
 
 -- One call more.
-module _ {table : List ℕ} (h : List Event) {s : State} (inv : Invariant table (trueEvents h) (lastTime h) s) where
-  on : (c : Call) → Invariant table (trueEvents (heard h c)) (lastTime (heard h c)) (next table s c)
-  on c = next-kept table h s inv c (heard h c) refl
+module _ {setup : Setup} (listed : ListRight (setup .table) (setup .list)) (h : List Event) {s : State}
+    (inv : Invariant (setup .table) (trueEvents h) (lastTime h) s) where
+  on : (c : Call) → Invariant (setup .table) (trueEvents (heard h c)) (lastTime (heard h c)) (next setup s c)
+  on c = next-kept setup listed h s inv c (heard h c) refl
 
-  heard-refused : (c : Call) → accepted? (call table s c .reply) ≡ false → heard h c ≡ h
+  heard-refused : (c : Call) → accepted? (call setup s c .reply) ≡ false → heard h c ≡ h
   heard-refused c refused =
       keeps-cases (λ keeps. cond keeps (eventOf (lastTime h) c ∷ h) h ≡ h) (lastTime h) c
-      (λ keeps. absurd (rw refused at (kept-accepted inv c keeps)))
+      (λ keeps. absurd (rw refused at (kept-accepted listed inv c keeps)))
       (λ over. refl)
       (λ within below. refl)
 
@@ -96,16 +99,16 @@ module _ {table : List ℕ} (h : List Event) {s : State} (inv : Invariant table 
     moves : Keeps (lastTime h) (frame counter mask) → lastTime (heard h (frame counter mask)) ≡ time
     moves kept = ap lastTime (heard-kept h (frame counter mask) kept) ∙ is-true
 
-    timed : Keeps (lastTime h) (frame counter mask) → clockOf (next table s (frame counter mask) .found) ≡ time
+    timed : Keeps (lastTime h) (frame counter mask) → clockOf (next setup s (frame counter mask) .found) ≡ time
     timed kept = on (frame counter mask) .time ∙ moves kept
 
-module _ (table : List ℕ) where
+module _ (setup : Setup) (listed : ListRight (setup .table) (setup .list)) where
   abbrev AllTrue : State → List Call → List ℕ → Type 0
   AllTrue s calls times =
-      Every (λ (reply : Reply). T (accepted? reply)) (ofFrames calls (replies table s calls)) × (ofFrames calls (recordTimes table s calls) ≡ times)
+      Every (λ (reply : Reply). T (accepted? reply)) (ofFrames calls (replies setup s calls)) × (ofFrames calls (recordTimes setup s calls) ≡ times)
 
   all-true : (h : List Event) {s : State} {calls : List Call} {times : List ℕ}
-      → Invariant table (trueEvents h) (lastTime h) s
+      → Invariant (setup .table) (trueEvents h) (lastTime h) s
       → OnlyFramesFrom h calls
       → Counted calls times
       → Close (lastTime h) times
@@ -114,79 +117,80 @@ module _ (table : List ℕ) where
   unfolding replies recordTimes ofFrames Close
   all-true h inv only no-call close within = (tt, refl)
   all-true h inv only (an-event {time} {mask} {calls} {times} others) close within =
-      all-true (heard h (event time mask)) (on h inv (event time mask)) (only-later h (event time mask) calls only) others
+      all-true (heard h (event time mask)) (on listed h inv (event time mask)) (only-later h (event time mask) calls only) others
       (subst (λ (last : ℕ). Close last times) (sym (event-stays h time mask calls only)) close) within
   all-true h {s} inv only (a-frame {counter} {mask} {time} {calls} {times} same others) close (early, within) =
       let c = frame counter mask in
-      let kept = keeps h inv counter mask time times same close early in
-      let rest : AllTrue (next table s c) calls times =
-      all-true (heard h c) (on h inv c) (only-later h c calls only) others
-      (subst (λ (last : ℕ). Close last times) (sym (moves h inv counter mask time times same close kept)) (close .2)) within
+      let kept = keeps listed h inv counter mask time times same close early in
+      let rest : AllTrue (next setup s c) calls times =
+      all-true (heard h c) (on listed h inv c) (only-later h c calls only) others
+      (subst (λ (last : ℕ). Close last times) (sym (moves listed h inv counter mask time times same close kept)) (close .2)) within
       in
-      ((kept-accepted inv c kept, rest .0), rw (timed h inv counter mask time times same close kept, rest .1))
+      ((kept-accepted listed inv c kept, rest .0), rw (timed listed h inv counter mask time times same close kept, rest .1))
 
   -- Where the times of those that are accepted go on from the clock, the record has them.
   abbrev AcceptedTrue : List Call → List ℕ → Type 0
   AcceptedTrue calls times =
       (h : List Event) (s : State)
-      → Invariant table (trueEvents h) (lastTime h) s
+      → Invariant (setup .table) (trueEvents h) (lastTime h) s
       → OnlyFramesFrom h calls
-      → Close (lastTime h) (acceptedTimes (ofFrames calls (replies table s calls)) times)
-      → acceptedTimes (ofFrames calls (replies table s calls)) (ofFrames calls (recordTimes table s calls))
-      ≡ acceptedTimes (ofFrames calls (replies table s calls)) times
+      → Close (lastTime h) (acceptedTimes (ofFrames calls (replies setup s calls)) times)
+      → acceptedTimes (ofFrames calls (replies setup s calls)) (ofFrames calls (recordTimes setup s calls))
+      ≡ acceptedTimes (ofFrames calls (replies setup s calls)) times
 
   frame-more : (counter mask : ℕ) (calls : List Call) (time : ℕ) (times : List ℕ)
       → counter ≡ counterOf time
       → AcceptedTrue calls times
       → AcceptedTrue (frame counter mask ∷ calls) (time ∷ times)
   unfolding replies recordTimes ofFrames acceptedTimes Close
-  frame-more counter mask calls time times same more h s inv only = go (accepted? (call table s c .reply)) refl
+  frame-more counter mask calls time times same more h s inv only = go (accepted? (call setup s c .reply)) refl
     where
       c : Call
       c = frame counter mask
 
       answered : List Reply
-      answered = ofFrames (c ∷ calls) (replies table s (c ∷ calls))
+      answered = ofFrames (c ∷ calls) (replies setup s (c ∷ calls))
 
       later : (last : ℕ)
           → lastTime (heard h c) ≡ last
-          → Close last (acceptedTimes (ofFrames calls (replies table (next table s c) calls)) times)
-          → acceptedTimes (ofFrames calls (replies table (next table s c) calls)) (ofFrames calls (recordTimes table (next table s c) calls))
-          ≡ acceptedTimes (ofFrames calls (replies table (next table s c) calls)) times
+          → Close last (acceptedTimes (ofFrames calls (replies setup (next setup s c) calls)) times)
+          → acceptedTimes (ofFrames calls (replies setup (next setup s c) calls)) (ofFrames calls (recordTimes setup (next setup s c) calls))
+          ≡ acceptedTimes (ofFrames calls (replies setup (next setup s c) calls)) times
       later last is close =
-          more (heard h c) (next table s c) (on h inv c) (only-later h c calls only)
-          (subst (λ (from : ℕ). Close from (acceptedTimes (ofFrames calls (replies table (next table s c) calls)) times)) (sym is) close)
+          more (heard h c) (next setup s c) (on listed h inv c) (only-later h c calls only)
+          (subst (λ (from : ℕ). Close from (acceptedTimes (ofFrames calls (replies setup (next setup s c) calls)) times)) (sym is) close)
 
       go : (yes : Bool)
-          → accepted? (call table s c .reply) ≡ yes
+          → accepted? (call setup s c .reply) ≡ yes
           → Close (lastTime h) (acceptedTimes answered (time ∷ times))
-          → acceptedTimes answered (ofFrames (c ∷ calls) (recordTimes table s (c ∷ calls))) ≡ acceptedTimes answered (time ∷ times)
+          → acceptedTimes answered (ofFrames (c ∷ calls) (recordTimes setup s (c ∷ calls))) ≡ acceptedTimes answered (time ∷ times)
       go true e close =
-          let accepted = acceptedTimes (ofFrames calls (replies table (next table s c) calls)) times in
+          let accepted = acceptedTimes (ofFrames calls (replies setup (next setup s c) calls)) times in
           let goes-on : Close (lastTime h) (time ∷ accepted) = rw e at close in
-          let kept = only-kept inv c (rw e tt) in
-          rw (e, timed h inv counter mask time accepted same goes-on kept)
-          (ap (λ (rest : List ℕ). time ∷ rest) (later time (moves h inv counter mask time accepted same goes-on kept) (goes-on .2)))
-      go false e close = rw e (later (lastTime h) (ap lastTime (heard-refused h inv c e)) (rw e at close))
+          let kept = only-kept listed inv c (rw e tt) in
+          rw (e, timed listed h inv counter mask time accepted same goes-on kept)
+          (ap (λ (rest : List ℕ). time ∷ rest) (later time (moves listed h inv counter mask time accepted same goes-on kept) (goes-on .2)))
+      go false e close = rw e (later (lastTime h) (ap lastTime (heard-refused listed h inv c e)) (rw e at close))
 
   accepted-true : {calls : List Call} {times : List ℕ} → Counted calls times → AcceptedTrue calls times
   unfolding replies recordTimes ofFrames acceptedTimes
   accepted-true no-call = λ h s inv only close. refl
   accepted-true (an-event {time} {mask} {calls} {times} others) =
       λ h s inv only close.
-      accepted-true others (heard h (event time mask)) (next table s (event time mask)) (on h inv (event time mask))
+      accepted-true others (heard h (event time mask)) (next setup s (event time mask)) (on listed h inv (event time mask))
       (only-later h (event time mask) calls only)
-      (subst (λ (last : ℕ). Close last (acceptedTimes (ofFrames calls (replies table (next table s (event time mask)) calls)) times))
+      (subst (λ (last : ℕ). Close last (acceptedTimes (ofFrames calls (replies setup (next setup s (event time mask)) calls)) times))
       (sym (event-stays h time mask calls only)) close)
   accepted-true (a-frame {counter} {mask} {time} {calls} {times} same others) =
       frame-more counter mask calls time times same (accepted-true others)
 
 pub frame-times-are-true : FrameTimesAreTrue
 unfolding kept trueEvents
-frame-times-are-true table store calls times starts only same =
-    let begun : Invariant table [] 0 (started table store) = start-right table store starts in
+frame-times-are-true setup store calls times starts only same =
+    let listed = start-ready setup store starts .listed in
+    let begun : Invariant (setup .table) [] 0 (started setup store) = start-right setup store starts in
     let call-by-call = counted calls times same in
     record {
-      all = λ true-times. all-true table [] begun only call-by-call (true-close times true-times);
-      accepted-ones = λ true-times. accepted-true table call-by-call [] (started table store) begun only (true-close _ true-times);
+      all = λ true-times. all-true setup listed [] begun only call-by-call (true-close times true-times);
+      accepted-ones = λ true-times. accepted-true setup listed call-by-call [] (started setup store) begun only (true-close _ true-times);
     }

@@ -13,9 +13,11 @@ use Rattle.rules.specs.Rows.{rowsOf, numbersAt, ruleOf}
 use Rattle.rules.specs.Stretches.{width}
 use Rattle.rules.specs.RowFormula.{formulaOf}
 use Rattle.spans.specs.Layout.{Laid}
-use Rattle.soundness.specs.Record.{wasSeen, truthAt, heldAt, stretchAt, clockOf, eventTime}
+use Rattle.row_list.specs.Truths.{truthAt}
+use Rattle.soundness.specs.Record.{wasSeen, heldAt, stretchAt, clockOf, eventTime}
 use Rattle.promises.specs.Stream.{State}
-use Rattle.promises.specs.Conditions.{Ready, RecordRight}
+use Rattle.promises.specs.Conditions.{RecordRight}
+use Rattle.promises.proofs.TableRefusals.{TableRoom}
 use Rattle.promises.specs.SoundIsKept.{Sized}
 use Rattle.promises.specs.Verdicts.{Says}
 use Rattle.promises.specs.Spans.{RowRuns}
@@ -44,7 +46,7 @@ pub record Invariant (table : List ℕ) (h : History) (clock : ℕ) (s : State) 
   pub time : clockOf (s .found) ≡ clock
   pub seen : wasSeen (s .found) ≡ anySeen h
   -- Room: the table is right, and the store has its need.
-  pub ready : Ready table (length (s .store))
+  pub ready : TableRoom table (length (s .store))
   -- Layout: the record has its entries and is sound.
   pub sized : Sized (s .found)
   pub sound : RecordRight table (s .store) (s .found)

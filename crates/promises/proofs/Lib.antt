@@ -5,6 +5,7 @@ pub mod Deciding
 pub mod StreamLaws
 pub mod Invariant
 pub mod TableTold
+pub mod ListTold
 pub mod Formulas
 pub mod TableRefusals
 pub mod StretchTold
@@ -30,6 +31,7 @@ pub mod HeartbeatKept
 pub mod CallKept
 pub mod StreamKept
 pub mod Verdicts
+pub mod OtherList
 pub mod FrameTimes
 pub mod LineTimes
 pub mod Spans

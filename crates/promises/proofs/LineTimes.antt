@@ -7,7 +7,8 @@ use Rattle.meaning.specs.FrameTime.{frameTime}
 use Rattle.refusals.specs.Refusals.{Refused, refused, numberOf}
 use Rattle.refusals.specs.declared.refusal.Refusal.the-variants.{Earlier}
 use Rattle.soundness.specs.declared.record.Record.{Record}
-use Rattle.monitor.specs.Step.{Setup, Call, event, frame, frameOf}
+use Rattle.soundness.specs.Setup.{Setup}
+use Rattle.monitor.specs.Step.{Call, event, frame, frameOf}
 use Rattle.promises.specs.Stream.{State, next, started}
 use Rattle.promises.specs.Refusing as Refusing
 use Rattle.promises.specs.Refusing.{TableRefused, StartRefused, CallRefused}
@@ -29,30 +30,30 @@ unfolding frameCounters
 counters-all [] = refl
 counters-all (given ∷ lines) = ap (λ (counters : List ℕ). counterIn given ∷ counters) (counters-all lines)
 
-module _ (table : List ℕ) where
-  replies-all : (s : State) (lines : List (List ℕ)) → ofFrames (framesOf lines) (replies table s (framesOf lines)) ≡ replies table s (framesOf lines)
+module _ (setup : Setup) where
+  replies-all : (s : State) (lines : List (List ℕ)) → ofFrames (framesOf lines) (replies setup s (framesOf lines)) ≡ replies setup s (framesOf lines)
   unfolding ofFrames replies
   replies-all s [] = refl
-  replies-all s (given ∷ lines) = rw (replies-all (next table s (frameOf given)) lines)
+  replies-all s (given ∷ lines) = rw (replies-all (next setup s (frameOf given)) lines)
 
-  times-all : (s : State) (lines : List (List ℕ)) → ofFrames (framesOf lines) (recordTimes table s (framesOf lines)) ≡ recordTimes table s (framesOf lines)
+  times-all : (s : State) (lines : List (List ℕ)) → ofFrames (framesOf lines) (recordTimes setup s (framesOf lines)) ≡ recordTimes setup s (framesOf lines)
   unfolding ofFrames recordTimes
   times-all s [] = refl
-  times-all s (given ∷ lines) = rw (times-all (next table s (frameOf given)) lines)
+  times-all s (given ∷ lines) = rw (times-all (next setup s (frameOf given)) lines)
 
 pub line-times-are-true : LineTimesAreTrue
-line-times-are-true table store lines times starts same =
-    let timed : FramesTimed table store (framesOf lines) times =
-    frame-times-are-true table store (framesOf lines) times starts
+line-times-are-true setup store lines times starts same =
+    let timed : FramesTimed setup store (framesOf lines) times =
+    frame-times-are-true setup store (framesOf lines) times starts
     (λ before later time mask e keeps. absurd (no-event lines before later time mask e))
     (counters-all lines ∙ same)
     in
-    let replied = replies-all table (started table store) lines in
-    let shown = times-all table (started table store) lines in
+    let replied = replies-all setup (started setup store) lines in
+    let shown = times-all setup (started setup store) lines in
     record { all = rw (replied, shown) at (timed .all); accepted-ones = rw (replied, shown) at (timed .accepted-ones) }
 
 pub text-times-are-true : TextTimesAreTrue
-text-times-are-true table store text times = line-times-are-true table store (goodLines (linesRead text)) times
+text-times-are-true setup store text times = line-times-are-true setup store (goodLines (linesRead text)) times
 
 -- None of the refusals tried before 5 has its number, and the time of a frame is not below the last one.
 table-not-five : {table : List ℕ} {fault : Refused} → TableRefused table fault → ¬ (fault .number ≡ numberOf Earlier)
@@ -60,9 +61,10 @@ table-not-five (Refusing.one wrong) is-five = omega arith
 table-not-five (Refusing.two lengths r lower rows wrong) is-five = omega arith
 table-not-five (Refusing.three lengths r lower rows right wrong) is-five = omega arith
 
-start-not-five : {table : List ℕ} {size : ℕ} {fault : Refused} → StartRefused table size fault → ¬ (fault .number ≡ numberOf Earlier)
+start-not-five : {setup : Setup} {size : ℕ} {fault : Refused} → StartRefused setup size fault → ¬ (fault .number ≡ numberOf Earlier)
 start-not-five (Refusing.table wrong) is-five = table-not-five wrong is-five
-start-not-five (Refusing.four right short) is-five = omega arith
+start-not-five (Refusing.ten right wrong) is-five = omega arith
+start-not-five (Refusing.four right listed short) is-five = omega arith
 
 frame-not-five : {setup : Setup} {store : List ℕ} {found : Record} {counter mask : ℕ} {fault : Refused}
     → CallRefused setup store found (frame counter mask) fault

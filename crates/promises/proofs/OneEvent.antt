@@ -27,14 +27,16 @@ use Rattle.rules.proofs.PassedLaws.{InRange, range-order, Passed, passed-gives}
 use Rattle.spans.proofs.CoverLaws.{covered-told}
 use Rattle.monitor.proofs.RisingLaws.{truth-told}
 use Rattle.soundness.specs.declared.record.Record.{Record}
-use Rattle.soundness.specs.Record.{truthAt, spansFound, clockOf, eventTime}
+use Rattle.row_list.specs.Truths.{truthAt}
+use Rattle.soundness.specs.Record.{spansFound, clockOf, eventTime}
 use Rattle.monitor.specs.Event.{Moment, spansAfter, truthOf, truthsAfter, spansJudged, spansNow, recordAfter, storeAfter}
-use Rattle.monitor.specs.Step.{Setup, Call, timeOf, refusalOf, momentOf, verdictOf, verdict, clockMoved, acceptedReply, stepOf}
-use Rattle.promises.specs.Conditions.{Ready, RecordRight}
+use Rattle.soundness.specs.Setup.{Setup}
+use Rattle.monitor.specs.Step.{Call, timeOf, refusalOf, momentOf, verdictOf, verdict, clockMoved, acceptedReply, stepOf}
+use Rattle.promises.specs.Conditions.{RecordRight}
 use Rattle.promises.specs.SoundIsKept.{Sized}
 use Rattle.promises.specs.Spans.{InOrOut}
 use Rattle.promises.specs.OneEvent.{LaysOut, BelongsAfter, OneEvent, OneEventFromAny, OneHeartbeat, OnlyClockMoved, HeartbeatFromAny}
-use Rattle.promises.proofs.TableRefusals.{table-passes}
+use Rattle.promises.proofs.TableRefusals.{TableRoom, table-passes, room-of}
 use Rattle.promises.proofs.StretchTold.{in-range-of}
 use Rattle.promises.proofs.RowsAfter.{row-laid}
 use Rattle.promises.proofs.SoundAfter.{room-after, found-laid, found-is, found-sound}
@@ -49,10 +51,10 @@ test-in-or-out false told = (tells-not told .sound, tells-not told .complete)
 
 -- By what is answered it was an event, or a heartbeat.
 module _ (setup : Setup) (m : Moment) where
-  verdict-event : (holds : Bool) → acceptedReply setup m ≡ verdict holds → heartbeat? (m .mask) ≡ false
-  verdict-event holds said = go (heartbeat? (m .mask)) said
+  verdict-event : (number : ℕ) → acceptedReply setup m ≡ verdict number → heartbeat? (m .mask) ≡ false
+  verdict-event number said = go (heartbeat? (m .mask)) said
     where
-      go : (beat : Bool) → cond beat clockMoved (verdict (verdictOf setup (recordAfter m .truths))) ≡ verdict holds → beat ≡ false
+      go : (beat : Bool) → cond beat clockMoved (verdict (verdictOf setup (recordAfter m .truths))) ≡ verdict number → beat ≡ false
       go true e = let clash : _≡_ {A = ℕ} 0 1 = cc in absurd (omega arith)
       go false e = refl
 
@@ -66,7 +68,7 @@ module _ (setup : Setup) (m : Moment) where
 -- The spans found are laid out, and rise from the clock.
 module _
     (m : Moment)
-    (ready : Ready (m .table) (length (m .store)))
+    (ready : TableRoom (m .table) (length (m .store)))
     (right : RecordRight (m .table) (m .store) (m .found))
     (risen : clockOf (m .found) ≤ m .time)
     (row : ℕ)
@@ -83,11 +85,11 @@ module _
     (store : List ℕ)
     (found : Record)
     (c : Call)
-    (holds : Bool)
+    (number : ℕ)
     (row : ℕ)
     (columns : Stretch)
     (sized : Sized found)
-    (judged : stepOf setup store found c .reply ≡ verdict holds)
+    (judged : stepOf setup store found c .reply ≡ verdict number)
     (lower : row < rowsOf (setup .table))
     (since : ruleOf (numbersAt (setup .table) row) ≡ stretch columns)
   where
@@ -107,7 +109,7 @@ module _
 
     no-beat : heartbeat? (m .mask) ≡ false
     unfolding stepOf
-    no-beat = verdict-event setup m holds (rw unrefused at judged)
+    no-beat = verdict-event setup m number (rw unrefused at judged)
 
     accepted : Accepted setup store found c
     accepted = accepted-of setup store found c unrefused
@@ -126,10 +128,10 @@ module _
     order = range-order (n .a) (n .b) range
 
     before-laid : LaysOut (setup .table) row store found S
-    before-laid = spans-laid m (accepted .ready) (accepted .sound) (accepted .risen) row lower
+    before-laid = spans-laid m (room-of (accepted .ready)) (accepted .sound) (accepted .risen) row lower
 
     found-rises : Rising (clockOf found) S
-    found-rises = found-rising m (accepted .ready) (accepted .sound) (accepted .risen) row lower
+    found-rises = found-rising m (room-of (accepted .ready)) (accepted .sound) (accepted .risen) row lower
 
     event-past : eventTime found ≤ m .time
     event-past = omega (arith, accepted .risen, accepted .sound .order)
@@ -137,7 +139,7 @@ module _
     found-under : Under (m .time + n .a) (m .time +End endOf (n .b)) (clip (m .time) S)
     found-under =
         clipped-under (clockOf found) (m .time) (eventTime found) (n .a) (endOf (n .b)) S order (accepted .risen) event-past
-        (found-sound m (accepted .ready) (accepted .sound) (accepted .risen) row lower)
+        (found-sound m (room-of (accepted .ready)) (accepted .sound) (accepted .risen) row lower)
 
     has-entry : (r : ℕ) → r < rowsOf (setup .table) → r < length (found .truths)
     has-entry r known = omega (arith, accepted .ready .right .lengths .most, sized .truths)
@@ -166,7 +168,7 @@ module _
     now-rising =
         rw since
         (update-rises keeps feeds (clockOf found) (m .time) (eventTime found) (n .a) _ (endOf (n .b)) S order (accepted .risen)
-        event-past (found-sound m (accepted .ready) (accepted .sound) (accepted .risen) row lower))
+        event-past (found-sound m (room-of (accepted .ready)) (accepted .sound) (accepted .risen) row lower))
 
     now-exact : (u : ℕ) → In u (spansJudged m row) ↔ BelongsAfter (setup .table) row columns (recordAfter m) (m .time) S u
     unfolding spansAfter recordAfter
@@ -187,7 +189,7 @@ module _
     now-laid =
         subst (LaysOut (setup .table) row (storeAfter m) (recordAfter m)) now-is
         (row-laid m row lower (omega (arith, accepted .ready .right .lengths .most, sized .counts))
-        (room-after m (accepted .ready) (accepted .sound) (accepted .early) (accepted .risen)))
+        (room-after m (room-of (accepted .ready)) (accepted .sound) (accepted .early) (accepted .risen)))
 
     one-event : OneEvent setup store found c row columns
     unfolding stepOf
@@ -242,12 +244,12 @@ module _ (setup : Setup) (store : List ℕ) (found : Record) (c : Call) (moved :
     rest-laid =
         subst (LaysOut (setup .table) row (storeAfter met) (recordAfter met)) rest-is
         (row-laid met row lower (omega (arith, moved-accepted .ready .right .lengths .most, sized .counts))
-        (room-after met (moved-accepted .ready) (moved-accepted .sound) (moved-accepted .early) (moved-accepted .risen)))
+        (room-after met (room-of (moved-accepted .ready)) (moved-accepted .sound) (moved-accepted .early) (moved-accepted .risen)))
 
     one-heartbeat : OneHeartbeat setup store found c row
     unfolding stepOf
     one-heartbeat =
-        let ready = moved-accepted .ready in
+        let ready = room-of (moved-accepted .ready) in
         let right = moved-accepted .sound in
         let rises = found-rising met ready right (moved-accepted .risen) row lower in
         record {

@@ -47,7 +47,7 @@ timed-back (Timed.Refused fault) = ap Timed.Refused (refusal-back fault)
 pub one-outcome : OneOutcome
 one-outcome =
     record {
-      start = λ table store. one-said (λ (o : With Started). saidStart (o .result) (o .store)) startedOf started-back;
+      start = λ setup store. one-said (λ (o : With Started). saidStart (o .result) (o .store)) startedOf started-back;
       call = λ setup store found c. one-said (λ (o : With Judged). saidStep (o .result) (o .store)) judgedOf judged-back;
       frame-time = λ last counter. one-said saidTime timedOf timed-back;
     }

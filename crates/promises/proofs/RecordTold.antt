@@ -14,10 +14,12 @@ use Rattle.rules.specs.Rows.{rowsOf, numbersAt}
 use Rattle.rules.specs.Stretches.{spansOf}
 use Rattle.soundness.specs.declared.record.Record.{Record}
 use Rattle.times.specs.Times.{timeLimit}
-use Rattle.soundness.specs.Record.{wasSeen, truthAt, clockOf, eventTime}
+use Rattle.row_list.specs.Truths.{truthAt}
+use Rattle.soundness.specs.Record.{wasSeen, clockOf, eventTime}
 use Rattle.soundness.specs.Soundness.{soundEntry?, soundRow?, zeroPast?, soundTimes?, sound?}
-use Rattle.soundness.proofs.RecordLaws.{byte-unset}
-use Rattle.promises.specs.Conditions.{Ready, StretchRight, RecordRight}
+use Rattle.row_list.proofs.TruthsLaws.{byte-unset}
+use Rattle.promises.specs.Conditions.{StretchRight, RecordRight}
+use Rattle.promises.proofs.TableRefusals.{TableRoom}
 use Rattle.promises.proofs.Deciding.{tells-and-then, tells-every, tells-flag, set-or, or-unset}
 use Rattle.promises.proofs.StretchTold.{since-or-other, since-spans, other-spans, past-other, row-stretch-told, other-stretch}
 
@@ -78,7 +80,7 @@ record Tested (table store : List ℕ) (found : Record) : Type 0 where
   rows : (row : ℕ) → row < rowsOf table → EntryRight table found row × StretchRight table store found row
   past : (row : ℕ) → row < rowLimit → (row < rowsOf table) ⊎ Blank found row
 
-module _ (table store : List ℕ) (ready : Ready table (length store)) (found : Record) where
+module _ (table store : List ℕ) (ready : TableRoom table (length store)) (found : Record) where
   row-told : eventTime found ≤ timeLimit
       → (row : ℕ)
       → row < rowsOf table

@@ -9,13 +9,14 @@ use lib.Dec.{T}
 use lib.ListN.{length, take, drop, length-take, take-append-drop}
 use lib.Seq.{take-take, drop-append-le}
 use Rattle.rules.specs.Stretches.{needOf}
-use Rattle.monitor.specs.Step.{setupOf, Reply, stepOf, refusalOf, momentOf}
+use Rattle.soundness.specs.Setup.{Setup}
+use Rattle.monitor.specs.Step.{Reply, stepOf, refusalOf, momentOf}
 use Rattle.promises.specs.Stream.{State, call, next, after, accepted?}
 use Rattle.promises.specs.LeftOut.{answers, end, others, otherAnswers}
 use Rattle.promises.specs.AsIfNotMade.{Attempt, attempt, leaves, attempts}
 use Rattle.promises.specs.SpareWords.{SameNeeded, Alike}
 use Rattle.promises.specs.LineTimes.{replies}
-use Rattle.promises.specs.RefusedBetween.{acceptedCalls, WithTable, AcceptedWith, RefusedBetween}
+use Rattle.promises.specs.RefusedBetween.{acceptedCalls, WithSetup, AcceptedWith, RefusedBetween}
 use Rattle.promises.proofs.Refusing.{Accepted, accepted-of}
 use Rattle.promises.proofs.SoundIsKept.{accepted-passes}
 use Rattle.promises.proofs.AsIfNotMade.{refused-leaves}
@@ -34,101 +35,101 @@ put-back n size store after whole within first lent spare =
     ∙ rw (first, lent, append-assoc, ← drop-append-le n (take size store) (drop size store) within, take-append-drop size store, ← spare)
     (take-append-drop n whole)
 
--- One accepted attempt with the stream's table.
-module _ (table : List ℕ) (s : State) (t : Attempt) (with-table : WithTable table t) (yes : T (accepted? (attempt s t .reply))) where
+-- One accepted attempt with the stream's setup.
+module _ (setup : Setup) (s : State) (t : Attempt) (with-setup : WithSetup setup t) (yes : T (accepted? (attempt s t .reply))) where
   abbrev lent : List ℕ
   lent = take (t .size) (s .store)
 
-  room : needOf table ≤ length lent
+  room : needOf (setup .table) ≤ length lent
   unfolding stepOf
   room =
-      let m = momentOf (setupOf table) lent (s .found) (t .made) in
-      let accepted : Accepted (setupOf table) lent (s .found) (t .made) =
-      accepted-of (setupOf table) lent (s .found) (t .made)
-      (accepted-passes (setupOf table) lent (s .found) m (refusalOf (setupOf table) lent (s .found) (t .made)) (rw with-table at yes))
+      let m = momentOf setup lent (s .found) (t .made) in
+      let accepted : Accepted setup lent (s .found) (t .made) =
+      accepted-of setup lent (s .found) (t .made)
+      (accepted-passes setup lent (s .found) m (refusalOf setup lent (s .found) (t .made)) (rw with-setup at yes))
       in
       accepted .ready .room
 
-  same-needed : SameNeeded table lent (s .store)
+  same-needed : SameNeeded (setup .table) lent (s .store)
   same-needed =
       let size = length-take (t .size) (s .store) in
       record {
         room = room;
         other-room = omega (arith, room);
-        words = take-take (needOf table) (t .size) (s .store) (omega (arith, room));
+        words = take-take (needOf (setup .table)) (t .size) (s .store) (omega (arith, room));
       }
 
-  alike : Alike (setupOf table) lent (s .store) (s .found) (t .made)
-  alike = spare-words .call (setupOf table) lent (s .store) (s .found) (t .made) same-needed
+  alike : Alike setup lent (s .store) (s .found) (t .made)
+  alike = spare-words .call setup lent (s .store) (s .found) (t .made) same-needed
 
-  all-alike : Alike (setupOf table) (s .store) (s .store) (s .found) (t .made)
+  all-alike : Alike setup (s .store) (s .store) (s .found) (t .made)
   all-alike =
-      spare-words .call (setupOf table) (s .store) (s .store) (s .found) (t .made)
+      spare-words .call setup (s .store) (s .store) (s .found) (t .made)
       (record { room = same-needed .other-room; other-room = same-needed .other-room; words = refl })
 
-  accepted-reply : call table s (t .made) .reply ≡ attempt s t .reply
-  accepted-reply = rw with-table (sym (alike .reply))
+  accepted-reply : call setup s (t .made) .reply ≡ attempt s t .reply
+  accepted-reply = rw with-setup (sym (alike .reply))
 
-  accepted-leaves : leaves s t ≡ next table s (t .made)
+  accepted-leaves : leaves s t ≡ next setup s (t .made)
   accepted-leaves =
       rw (
-        with-table,
+        with-setup,
         alike .left,
-        put-back (needOf table) (t .size) (s .store) (stepOf (setupOf table) lent (s .found) (t .made) .store) (call table s (t .made) .store)
+        put-back (needOf (setup .table)) (t .size) (s .store) (stepOf setup lent (s .found) (t .made) .store) (call setup s (t .made) .store)
             room (alike .needed) (alike .spare) (all-alike .spare),
       )
 
-module _ (table : List ℕ) where
+module _ (setup : Setup) where
   abbrev Follows : State → List Attempt → Type 0
   Follows s made =
-      (otherAnswers attempts (answers attempts s made) ≡ replies table s (acceptedCalls s made))
-      × (end attempts s made ≡ after table s (acceptedCalls s made))
+      (otherAnswers attempts (answers attempts s made) ≡ replies setup s (acceptedCalls s made))
+      × (end attempts s made ≡ after setup s (acceptedCalls s made))
 
   -- One attempt more at the front, where so it is of the others: a refused one, then an accepted one.
   refused-first : (s : State) (t : Attempt) (more : List Attempt)
       → accepted? (attempt s t .reply) ≡ false
-      → ((from : State) → AcceptedWith table from more → Follows from more)
-      → AcceptedWith table s (t ∷ more)
+      → ((from : State) → AcceptedWith setup from more → Follows from more)
+      → AcceptedWith setup s (t ∷ more)
       → Follows s (t ∷ more)
   unfolding answers end others otherAnswers
-  refused-first s t more e on with-table =
+  refused-first s t more e on with-setup =
       let left : leaves s t ≡ s = refused-leaves s t e in
-      let rest : Follows s more = on s (rw (e, left) at with-table) in
+      let rest : Follows s more = on s (rw (e, left) at with-setup) in
       (rw (e, left) (rest .0), rw (e, left) (rest .1))
 
   accepted-first : (s : State) (t : Attempt) (more : List Attempt)
       → accepted? (attempt s t .reply) ≡ true
-      → ((from : State) → AcceptedWith table from more → Follows from more)
-      → AcceptedWith table s (t ∷ more)
+      → ((from : State) → AcceptedWith setup from more → Follows from more)
+      → AcceptedWith setup s (t ∷ more)
       → Follows s (t ∷ more)
   unfolding answers end others otherAnswers replies after
-  accepted-first s t more e on with-table =
-      let here : WithTable table t × AcceptedWith table (leaves s t) more = rw e at with-table in
-      let answered = accepted-reply table s t (here .0) (rw e tt) in
-      let left = accepted-leaves table s t (here .0) (rw e tt) in
+  accepted-first s t more e on with-setup =
+      let here : WithSetup setup t × AcceptedWith setup (leaves s t) more = rw e at with-setup in
+      let answered = accepted-reply setup s t (here .0) (rw e tt) in
+      let left = accepted-leaves setup s t (here .0) (rw e tt) in
       let rest : Follows (leaves s t) more = on (leaves s t) (here .1) in
-      let ends : end attempts (leaves s t) more ≡ after table (next table s (t .made)) (acceptedCalls (leaves s t) more) = rw (← left) (rest .1) in
+      let ends : end attempts (leaves s t) more ≡ after setup (next setup s (t .made)) (acceptedCalls (leaves s t) more) = rw (← left) (rest .1) in
       (rw (e, answered, ← left) (ap (λ (given : List Reply). attempt s t .reply ∷ given) (rest .0)), rw e ends)
 
-  attempts-follow : (s : State) (made : List Attempt) → AcceptedWith table s made → Follows s made
+  attempts-follow : (s : State) (made : List Attempt) → AcceptedWith setup s made → Follows s made
   unfolding answers end others otherAnswers replies after
-  attempts-follow s [] with-table = (refl, refl)
-  attempts-follow s (t ∷ more) with-table = go (accepted? (attempt s t .reply)) refl (λ from. attempts-follow from more)
+  attempts-follow s [] with-setup = (refl, refl)
+  attempts-follow s (t ∷ more) with-setup = go (accepted? (attempt s t .reply)) refl (λ from. attempts-follow from more)
     where
       go : (yes : Bool)
           → accepted? (attempt s t .reply) ≡ yes
-          → ((from : State) → AcceptedWith table from more → Follows from more)
+          → ((from : State) → AcceptedWith setup from more → Follows from more)
           → Follows s (t ∷ more)
-      go true e on = accepted-first s t more e on with-table
-      go false e on = refused-first s t more e on with-table
+      go true e on = accepted-first s t more e on with-setup
+      go false e on = refused-first s t more e on with-setup
 
 pub refused-between : RefusedBetween
-refused-between table s made with-table =
-    let follow = attempts-follow table s made with-table in
+refused-between setup s made with-setup =
+    let follow = attempts-follow setup s made with-setup in
     record {
       same-answers = follow .0;
       same-state = follow .1;
-      next = λ t is-table yes.
-          subst (λ (from : State). call table from (t .made) .reply ≡ attempt (end attempts s made) t .reply) (follow .1)
-          (accepted-reply table (end attempts s made) t is-table yes);
+      next = λ t is-setup yes.
+          subst (λ (from : State). call setup from (t .made) .reply ≡ attempt (end attempts s made) t .reply) (follow .1)
+          (accepted-reply setup (end attempts s made) t is-setup yes);
     }

@@ -22,11 +22,12 @@ use Rattle.soundness.specs.Record.{nothingSeen, clockOf}
 use Rattle.soundness.specs.Ready.{readyOf}
 use Rattle.monitor.specs.Event.{Moment, recordAfter}
 use Rattle.monitor.specs.Start.{begin, startOf}
-use Rattle.monitor.specs.Step.{Setup, Call, timeOf, refusalOf, momentOf, verdictOf, verdict, clockMoved, refusal, acceptedReply, outcomeBy, stepOf, at, notAt, frameTimeOf}
+use Rattle.soundness.specs.Setup.{Setup}
+use Rattle.monitor.specs.Step.{Call, timeOf, refusalOf, momentOf, verdictOf, verdict, clockMoved, refusal, acceptedReply, outcomeBy, stepOf, at, notAt, frameTimeOf}
 use Rattle.promises.specs.Conditions.{Ready, RecordRight}
 use Rattle.promises.specs.Refusing.{TableRefused, StartRefused, CallRefused, start, seven, six, five, RefusedExactly, RefusalChangesNothing}
 use Rattle.promises.proofs.Deciding.{exactly}
-use Rattle.promises.proofs.TableRefusals.{table-refuses, table-passes, table-decided, start-refuses, start-passes, start-decided}
+use Rattle.promises.proofs.TableRefusals.{table-refuses, table-passes, table-decided, room-of, start-refuses, start-passes, start-decided}
 use Rattle.promises.proofs.RecordTold.{record-told}
 
 check-exactly : (table : List ℕ) (fault : Refused) → (checkOf table ≡ refusedBy fault) ↔ TableRefused table fault
@@ -37,20 +38,20 @@ check-exactly table =
     (λ right fault e. let passes = table-passes table right in let clash : _≡_ {A = ℕ} 0 1 = cc in omega arith)
     (table-decided table)
 
-start-exactly : (table store : List ℕ) (fault : Refused) → (startOf table store .refusal ≡ some fault) ↔ StartRefused table (length store) fault
+start-exactly : (setup : Setup) (store : List ℕ) (fault : Refused) → (startOf setup store .refusal ≡ some fault) ↔ StartRefused setup (length store) fault
 unfolding startOf
-start-exactly table store =
-    exactly (startOf table store .refusal) some
+start-exactly setup store =
+    exactly (startOf setup store .refusal) some
     (λ f g e. cc)
-    (λ fault wrong. rw (start-refuses table (length store) fault wrong))
+    (λ fault wrong. rw (start-refuses setup (length store) fault wrong))
     (λ ready fault e.
-    let passes : startOf table store .refusal ≡ none = rw (start-passes table (length store) ready) in
+    let passes : startOf setup store .refusal ≡ none = rw (start-passes setup (length store) ready) in
     let clash : _≡_ {A = ℕ} 0 1 = cc in
     omega arith)
-    (start-decided table (length store))
+    (start-decided setup (length store))
 
 -- What an accepted call is answered is no refusal.
-unrefused : (setup : Setup) (m : Moment) (fault : Refused) → ¬ (acceptedReply setup m ≡ refusal fault)
+pub unrefused : (setup : Setup) (m : Moment) (fault : Refused) → ¬ (acceptedReply setup m ≡ refusal fault)
 unrefused setup m fault = go (heartbeat? (m .mask))
   where
     go : (beat : Bool) → ¬ (cond beat clockMoved (verdict (verdictOf setup (recordAfter m .truths))) ≡ refusal fault)
@@ -59,7 +60,7 @@ unrefused setup m fault = go (heartbeat? (m .mask))
 
 -- No condition on a call fails.
 pub record Accepted (setup : Setup) (store : List ℕ) (found : Record) (c : Call) : Type 0 where
-  pub ready : Ready (setup .table) (length store)
+  pub ready : Ready setup (length store)
   pub sound : RecordRight (setup .table) store found
   pub early : timeOf (clockOf found) c ≤ timeLimit
   pub risen : clockOf found ≤ timeOf (clockOf found) c
@@ -67,19 +68,19 @@ pub record Accepted (setup : Setup) (store : List ℕ) (found : Record) (c : Cal
 module _ (setup : Setup) (store : List ℕ) (found : Record) (c : Call) where
   call-refuses : (fault : Refused) → CallRefused setup store found c fault → refusalOf setup store found c ≡ some fault
   unfolding refusalOf
-  call-refuses fault (start wrong) = rw (start-refuses (setup .table) (length store) fault wrong)
+  call-refuses fault (start wrong) = rw (start-refuses setup (length store) fault wrong)
   call-refuses _ (seven ready wrong) =
-      rw (start-passes (setup .table) (length store) ready, told-false (record-told (setup .table) store ready found) wrong)
+      rw (start-passes setup (length store) ready, told-false (record-told (setup .table) store (room-of ready) found) wrong)
   call-refuses _ (six ready right late) =
       rw (
-        start-passes (setup .table) (length store) ready,
-        told-true (record-told (setup .table) store ready found) right,
+        start-passes setup (length store) ready,
+        told-true (record-told (setup .table) store (room-of ready) found) right,
         lt-leb (timeOf (clockOf found) c) timeLimit late,
       )
   call-refuses _ (five ready right early before) =
       rw (
-        start-passes (setup .table) (length store) ready,
-        told-true (record-told (setup .table) store ready found) right,
+        start-passes setup (length store) ready,
+        told-true (record-told (setup .table) store (room-of ready) found) right,
         le-leb (timeOf (clockOf found) c) timeLimit early,
         lt-leb (clockOf found) (timeOf (clockOf found) c) before,
       )
@@ -88,8 +89,8 @@ module _ (setup : Setup) (store : List ℕ) (found : Record) (c : Call) where
   unfolding refusalOf
   call-passes accepted =
       rw (
-        start-passes (setup .table) (length store) (accepted .ready),
-        told-true (record-told (setup .table) store (accepted .ready) found) (accepted .sound),
+        start-passes setup (length store) (accepted .ready),
+        told-true (record-told (setup .table) store (room-of (accepted .ready)) found) (accepted .sound),
         le-leb (timeOf (clockOf found) c) timeLimit (accepted .early),
         le-leb (clockOf found) (timeOf (clockOf found) c) (accepted .risen),
       )
@@ -98,7 +99,7 @@ module _ (setup : Setup) (store : List ℕ) (found : Record) (c : Call) where
   abbrev Decided : Type 0
   Decided = Accepted setup store found c ⊎ ((fault : Refused) × CallRefused setup store found c fault)
 
-  times-decided : Ready (setup .table) (length store) → RecordRight (setup .table) store found → Decided
+  times-decided : Ready setup (length store) → RecordRight (setup .table) store found → Decided
   times-decided ready sound =
       ⊎-elim
       (λ early.
@@ -109,15 +110,15 @@ module _ (setup : Setup) (store : List ℕ) (found : Record) (c : Call) where
       (λ late. inr (refused Late, six ready sound late))
       (le-or-lt (timeOf (clockOf found) c) timeLimit)
 
-  record-decided : Ready (setup .table) (length store) → Decided
+  record-decided : Ready setup (length store) → Decided
   record-decided ready =
       ⊎-elim
       (times-decided ready)
       (λ wrong. inr (refused Unsound, seven ready wrong))
-      (tells-decided (record-told (setup .table) store ready found))
+      (tells-decided (record-told (setup .table) store (room-of ready) found))
 
   call-decided : Decided
-  call-decided = ⊎-elim record-decided (λ wrong. inr (wrong .0, start (wrong .1))) (start-decided (setup .table) (length store))
+  call-decided = ⊎-elim record-decided (λ wrong. inr (wrong .0, start (wrong .1))) (start-decided setup (length store))
 
   pub accepted-of : refusalOf setup store found c ≡ none → Accepted setup store found c
   accepted-of passes =
@@ -171,5 +172,5 @@ unfolding stepOf startOf
 refusal-changes-nothing =
     record {
       call = λ setup store found c. outcome-refused setup store found (momentOf setup store found c) (refusalOf setup store found c);
-      start = λ table store. begin-refused store (readyOf table (length store));
+      start = λ setup store. begin-refused store (readyOf setup (length store));
     }

@@ -12,40 +12,40 @@ use Rattle.meaning.specs.Sound.{lengthOf}
 use Rattle.meaning.proofs.SoundLaws.{none-sound}
 use Rattle.kinds.specs.Kinds.{Rule, plain, stretch}
 use Rattle.rules.specs.Rows.{rowsOf, numbersAt, ruleOf, keptBy, fedBy}
-use Rattle.rules.specs.Stretches.{needOf}
 use Rattle.rules.specs.declared.numbers.Numbers.{Numbers}
 use Rattle.rules.proofs.PassedLaws.{InRange, range-order}
 use Rattle.times.specs.Times.{timeLimit}
-use Rattle.soundness.specs.Record.{truthAt, spansFound, clockOf, eventTime}
+use Rattle.row_list.specs.Truths.{truthAt}
+use Rattle.soundness.specs.Record.{spansFound, clockOf, eventTime}
 use Rattle.monitor.specs.Event.{Moment, spansBy, spansAfter, truthsAfter, spansJudged, spansClipped, heartbeatElse, spansNow}
 use Rattle.spans.proofs.LayoutLaws.{laid-read}
 use Rattle.meaning.proofs.SoundKept.{clip-sound, sound-kept}
 use Rattle.meaning.proofs.Tells.{told-true}
-use Rattle.soundness.proofs.ReadyLaws.{ready-gives}
+use Rattle.soundness.proofs.ReadyLaws.{table-ready}
 use Rattle.monitor.proofs.EventLaws.{Room}
 use Rattle.monitor.proofs.AcceptedLaws.{Accepted, now-enough}
-use Rattle.promises.specs.Conditions.{Ready, RowSound, StretchRight, RecordRight}
-use Rattle.promises.proofs.TableRefusals.{start-passes}
+use Rattle.promises.specs.Conditions.{RowSound, StretchRight, RecordRight}
+use Rattle.promises.proofs.TableRefusals.{TableRoom, table-passes}
 use Rattle.promises.proofs.StretchTold.{in-range-of, row-stored}
 use Rattle.promises.proofs.RecordTold.{all-stretches, record-told}
 
 -- The conditions of a call are met, as the monitor's own laws have them.
 monitor-met : (m : Moment)
-    → Ready (m .table) (length (m .store))
+    → TableRoom (m .table) (length (m .store))
     → RecordRight (m .table) (m .store) (m .found)
     → m .time ≤ timeLimit
     → clockOf (m .found) ≤ m .time
     → Accepted (m .table) (m .store) (m .found) (m .time)
 monitor-met m ready right early risen =
     record {
-      ready = ready-gives (m .table) (length (m .store)) (rowsOf (m .table)) (needOf (m .table)) (start-passes (m .table) (length (m .store)) ready);
+      ready = table-ready (m .table) (length (m .store)) (record { passes = rw (table-passes (m .table) (ready .right)); room = ready .room });
       sound = told-true (record-told (m .table) (m .store) ready (m .found)) right;
       early = early;
       risen = risen;
     }
 
 pub room-after : (m : Moment)
-    → Ready (m .table) (length (m .store))
+    → TableRoom (m .table) (length (m .store))
     → RecordRight (m .table) (m .store) (m .found)
     → m .time ≤ timeLimit
     → clockOf (m .found) ≤ m .time
@@ -54,7 +54,7 @@ room-after m ready right early risen = now-enough m (monitor-met m ready right e
 
 module _
     (m : Moment)
-    (ready : Ready (m .table) (length (m .store)))
+    (ready : TableRoom (m .table) (length (m .store)))
     (right : RecordRight (m .table) (m .store) (m .found))
     (risen : clockOf (m .found) ≤ m .time)
     (row : ℕ)

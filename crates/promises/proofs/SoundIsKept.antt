@@ -19,14 +19,17 @@ use Rattle.rules.specs.Rows.{rowsOf, numbersAt}
 use Rattle.rules.specs.Stretches.{spansOf}
 use Rattle.soundness.specs.declared.record.Record.{Record}
 use Rattle.times.specs.Times.{timeLimit}
-use Rattle.soundness.specs.Record.{byteOf, isTrue, wasSeen, truthAt, clockOf, eventTime, stretchAt}
+use Rattle.row_list.specs.Truths.{byteOf, isTrue, truthAt}
+use Rattle.soundness.specs.Record.{wasSeen, clockOf, eventTime, stretchAt}
 use Rattle.monitor.specs.Event.{Moment, truthOf, truthsAfter, spansNow, countsWith, recordAfter, storeAfter}
-use Rattle.monitor.specs.Step.{Setup, refusalOf, momentOf, outcomeBy, stepOf}
-use Rattle.soundness.proofs.RecordLaws.{byte-small}
+use Rattle.soundness.specs.Setup.{Setup}
+use Rattle.monitor.specs.Step.{refusalOf, momentOf, outcomeBy, stepOf}
+use Rattle.row_list.proofs.TruthsLaws.{byte-small}
 use Rattle.monitor.proofs.EventLaws.{Room, length-store}
 use Rattle.monitor.proofs.RisingLaws.{length-truths, truth-set, truth-left, length-counts, count-set, count-left}
 use Rattle.promises.specs.Stream.{accepted?}
-use Rattle.promises.specs.Conditions.{Ready, RecordRight}
+use Rattle.promises.specs.Conditions.{RecordRight}
+use Rattle.promises.proofs.TableRefusals.{TableRoom, room-of}
 use Rattle.promises.specs.SoundIsKept.{Sized, SoundIsKept}
 use Rattle.promises.proofs.RowsAfter.{row-laid}
 use Rattle.promises.proofs.StretchTold.{since-spans, other-spans}
@@ -41,7 +44,7 @@ none-clipped time words = refl
 
 module _
     (m : Moment)
-    (ready : Ready (m .table) (length (m .store)))
+    (ready : TableRoom (m .table) (length (m .store)))
     (right : RecordRight (m .table) (m .store) (m .found))
     (risen : clockOf (m .found) ≤ m .time)
     (early : m .time ≤ timeLimit)
@@ -172,9 +175,9 @@ sound-is-kept setup store found c sized e =
     let m = momentOf setup store found c in
     let passes : refusalOf setup store found c ≡ none = accepted-passes setup store found m (refusalOf setup store found c) e in
     let accepted : Accepted setup store found c = accepted-of setup store found c passes in
-    let room : Room (m .table) (spansNow m) (rowsOf (m .table)) = room-after m (accepted .ready) (accepted .sound) (accepted .early) (accepted .risen) in
+    let room : Room (m .table) (spansNow m) (rowsOf (m .table)) = room-after m (room-of (accepted .ready)) (accepted .sound) (accepted .early) (accepted .risen) in
     record {
-      sound = rw passes (sound-after m (accepted .ready) (accepted .sound) (accepted .risen) (accepted .early) sized);
+      sound = rw passes (sound-after m (room-of (accepted .ready)) (accepted .sound) (accepted .risen) (accepted .early) sized);
       sized = rw passes (sized-after m sized);
       size = rw passes (length-store (m .table) (spansNow m) (m .store) (rowsOf (m .table)) room (accepted .ready .room));
     }

@@ -16,7 +16,7 @@ use Rattle.rules.specs.Rows.{rowsOf, numbersAt, ruleOf, keptBy, taken, fedBy}
 use Rattle.rules.specs.Stretches.{needOf}
 use Rattle.rules.specs.RowFormula.{sinceOf, formulaOf}
 use Rattle.rules.proofs.PassedLaws.{passed-formula}
-use Rattle.soundness.specs.Record.{truthAt}
+use Rattle.row_list.specs.Truths.{truthAt}
 use Rattle.promises.specs.Stream.{State, state, history, clock}
 use Rattle.promises.specs.Verdicts.{Says}
 use Rattle.promises.specs.Spans.{RowRuns, InOrOut, HoldsRuns, SpansAreTheRuns}
@@ -71,5 +71,5 @@ module _ (table : List ℕ) (row : ℕ) (columns : Stretch) where
         }
 
 pub spans-are-the-runs : SpansAreTheRuns
-spans-are-the-runs table store starts calls row columns known says =
-    row-holds table row columns (history calls) (clock calls) (state table store calls) (stream-kept table store starts calls) known says
+spans-are-the-runs setup store starts calls row columns known says =
+    row-holds (setup .table) row columns (history calls) (clock calls) (state setup store calls) (stream-kept setup store starts calls) known says

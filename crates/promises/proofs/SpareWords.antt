@@ -19,13 +19,16 @@ use Rattle.rules.proofs.StretchesLaws.{stretch-before}
 use Rattle.soundness.specs.declared.record.Record.{Record}
 use Rattle.soundness.specs.Record.{stretchAt, clockOf}
 use Rattle.soundness.specs.Soundness.{every, soundRow?, sound?}
+use Rattle.meaning.proofs.Truths.{by-test}
+use Rattle.row_list.specs.RowList.{listPasses}
 use Rattle.soundness.specs.Ready.{readyOf}
 use Rattle.monitor.specs.Start.{startOf}
 use Rattle.monitor.specs.Event.{Moment, spansAfter, truthOf, truthsAfter, spansJudged, spansClipped, spansNow, countsWith, wordsDone, recordAfter}
-use Rattle.monitor.specs.Step.{Setup, Call, timeOf, maskOf, refusalOf, momentOf, stepOf}
+use Rattle.soundness.specs.Setup.{Setup}
+use Rattle.monitor.specs.Step.{Call, timeOf, maskOf, refusalOf, momentOf, stepOf}
 use Rattle.monitor.proofs.EventLaws.{spans-same, truth-same, Room, words-done, words-left}
 use Rattle.promises.specs.SpareWords.{SameNeeded, Alike, BegunAlike, SpareWords}
-use Rattle.promises.proofs.TableRefusals.{table-refuses, table-passes, table-decided, start-refuses, start-passes, start-decided}
+use Rattle.promises.proofs.TableRefusals.{room-of, table-refuses, table-passes, table-decided, start-refuses, start-passes, start-decided}
 use Rattle.promises.proofs.SoundAfter.{room-after}
 use Rattle.promises.proofs.Refusing.{Accepted, accepted-of}
 
@@ -55,28 +58,34 @@ module _ (table store other : List ℕ) (alike : SameNeeded table store other) w
       ∙ ap (λ (words : List ℕ). drop (offset table row) (take (offset table row + width (numbersAt table row)) words)) (alike .words)
       ∙ sym (stretch-from table other row lower (alike .other-room))
 
-  same-ready : readyOf table (length store) ≡ readyOf table (length other)
-  unfolding readyOf
-  same-ready =
-      ⊎-elim
-      (λ right.
-      rw (
-        table-passes table right,
-        le-leb (needOf table) (length store) (alike .room),
-        le-leb (needOf table) (length other) (alike .other-room),
-      ))
-      (λ wrong. rw (table-refuses table (wrong .0) (wrong .1)))
-      (table-decided table)
-
   same-sound : (found : Record) → sound? table store found ≡ sound? table other found
   unfolding sound? soundRow?
   same-sound found =
       rw (every-same (rowsOf table) (soundRow? table store found) (soundRow? table other found) (λ row lower. rw (same-stretch row lower)))
 
+-- What passes for table and list passes with either store.
+same-ready : (setup : Setup) (store other : List ℕ) → SameNeeded (setup .table) store other → readyOf setup (length store) ≡ readyOf setup (length other)
+unfolding readyOf
+same-ready setup store other alike =
+    ⊎-elim
+    (λ right.
+    let passes = table-passes (setup .table) right in
+    by-test (listPasses (setup .list) (rowsOf (setup .table)))
+    (λ listed.
+    rw (
+      passes,
+      listed,
+      le-leb (needOf (setup .table)) (length store) (alike .room),
+      le-leb (needOf (setup .table)) (length other) (alike .other-room),
+    ))
+    (λ unlisted. rw (passes, unlisted)))
+    (λ wrong. rw (table-refuses (setup .table) (wrong .0) (wrong .1)))
+    (table-decided (setup .table))
+
 module _ (setup : Setup) (store other : List ℕ) (found : Record) (c : Call) (alike : SameNeeded (setup .table) store other) where
   same-refusal : refusalOf setup store found c ≡ refusalOf setup other found c
   unfolding refusalOf
-  same-refusal = rw (same-ready (setup .table) store other alike, same-sound (setup .table) store other alike found)
+  same-refusal = rw (same-ready setup store other alike, same-sound (setup .table) store other alike found)
 
   -- The call at the one store and at the other.
   abbrev time : ℕ
@@ -130,8 +139,8 @@ module _ (setup : Setup) (store other : List ℕ) (found : Record) (c : Call) (a
       let counts = same-counts rows (omega arith) in
       let first : Accepted setup store found c = accepted-of setup store found c e in
       let second : Accepted setup other found c = accepted-of setup other found c e′ in
-      let room : Room (setup .table) (spansNow m) rows = room-after m (first .ready) (first .sound) (first .early) (first .risen) in
-      let room′ : Room (setup .table) (spansNow m′) rows = room-after m′ (second .ready) (second .sound) (second .early) (second .risen) in
+      let room : Room (setup .table) (spansNow m) rows = room-after m (room-of (first .ready)) (first .sound) (first .early) (first .risen) in
+      let room′ : Room (setup .table) (spansNow m′) rows = room-after m′ (room-of (second .ready)) (second .sound) (second .early) (second .risen) in
       record {
         reply = rw (e, e′, truths);
         left = rw (e, e′, truths, counts);
@@ -147,35 +156,38 @@ module _ (setup : Setup) (store other : List ℕ) (found : Record) (c : Call) (a
   call-alike = alike-by (refusalOf setup store found c) refl (sym same-refusal)
 
 -- A start looks only at the size.
-module _ (table store other : List ℕ) (alike : SameNeeded table store other) where
-  other-said : {said : CheckReply} → readyOf table (length store) ≡ said → readyOf table (length other) ≡ said
-  other-said e = sym (same-ready table store other alike) ∙ e
+module _ (setup : Setup) (store other : List ℕ) (alike : SameNeeded (setup .table) store other) where
+  abbrev need : ℕ
+  need = needOf (setup .table)
 
-  good-alike : readyOf table (length store) ≡ passed (rowsOf table) (needOf table) → BegunAlike table store other
+  other-said : {said : CheckReply} → readyOf setup (length store) ≡ said → readyOf setup (length other) ≡ said
+  other-said e = sym (same-ready setup store other alike) ∙ e
+
+  good-alike : readyOf setup (length store) ≡ passed (rowsOf (setup .table)) need → BegunAlike setup store other
   unfolding startOf
   good-alike e =
-      let zeros : List ℕ = replicate (needOf table) 0 in
-      let size : length zeros ≡ needOf table = length-replicate (needOf table) 0 in
+      let zeros : List ℕ = replicate need 0 in
+      let size : length zeros ≡ need = length-replicate need 0 in
       record {
         refusal = rw (e, other-said e);
         given = rw (e, other-said e);
         needed =
             rw (e, other-said e)
-            (take-at zeros (drop (needOf table) store) (needOf table) size ∙ sym (take-at zeros (drop (needOf table) other) (needOf table) size));
-        spare = rw e (drop-at zeros (drop (needOf table) store) (needOf table) size);
+            (take-at zeros (drop need store) need size ∙ sym (take-at zeros (drop need other) need size));
+        spare = rw e (drop-at zeros (drop need store) need size);
       }
 
-  refused-alike : (fault : Refused) → readyOf table (length store) ≡ refusedBy fault → BegunAlike table store other
+  refused-alike : (fault : Refused) → readyOf setup (length store) ≡ refusedBy fault → BegunAlike setup store other
   unfolding startOf
   refused-alike fault e =
       record { refusal = rw (e, other-said e); given = rw (e, other-said e); needed = rw (e, other-said e) (alike .words); spare = rw e }
 
-  start-alike : BegunAlike table store other
+  start-alike : BegunAlike setup store other
   start-alike =
       ⊎-elim
-      (λ ready. good-alike (start-passes table (length store) ready))
-      (λ wrong. refused-alike (wrong .0) (start-refuses table (length store) (wrong .0) (wrong .1)))
-      (start-decided table (length store))
+      (λ ready. good-alike (start-passes setup (length store) ready))
+      (λ wrong. refused-alike (wrong .0) (start-refuses setup (length store) (wrong .0) (wrong .1)))
+      (start-decided setup (length store))
 
 pub spare-words : SpareWords
 spare-words = record { call = call-alike; start = start-alike }

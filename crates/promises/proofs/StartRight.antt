@@ -18,13 +18,15 @@ use Rattle.rules.specs.Rows.{rowsOf, numbersAt, ruleOf}
 use Rattle.rules.specs.Stretches.{width, offset, needOf}
 use Rattle.rules.proofs.StretchesLaws.{stretch-before}
 use Rattle.spans.specs.Layout.{wordsOf, packed, Laid}
-use Rattle.soundness.specs.Record.{truthAt, heldAt, stretchAt, nothingSeen}
+use Rattle.row_list.specs.Truths.{truthAt}
+use Rattle.soundness.specs.Record.{heldAt, stretchAt, nothingSeen}
+use Rattle.soundness.specs.Setup.{Setup}
 use Rattle.monitor.specs.Start.{startOf}
 use Rattle.promises.specs.Stream.{State, Starts, started}
 use Rattle.promises.specs.Spans.{KeeperHolds, FeederHolds}
 use Rattle.promises.proofs.Invariant.{Spanned, Invariant}
 use Rattle.promises.specs.Conditions.{Ready, RecordRight}
-use Rattle.promises.proofs.TableRefusals.{start-passes, start-decided}
+use Rattle.promises.proofs.TableRefusals.{room-of, start-passes, start-decided}
 use Rattle.promises.proofs.Refusing.{refused-exactly}
 
 abbrev zeros : ℕ → List ℕ
@@ -57,28 +59,31 @@ zeros-part from size n rest inside =
       take-at (zeros size) (zeros after ++ rest) size (length-replicate size 0),
     )
 
--- Where a start is good the table is right and the store has room.
-start-ready : (table store : List ℕ) → Starts table store → Ready table (length store)
-start-ready table store starts =
+-- Where a start is good the table and the list are right and the store has room.
+pub start-ready : (setup : Setup) (store : List ℕ) → Starts setup store → Ready setup (length store)
+start-ready setup store starts =
     ⊎-elim
     (λ ready. ready)
     (λ wrong.
-    let refuses = refused-exactly .start table store (wrong .0) .1 (wrong .1) in
+    let refuses = refused-exactly .start setup store (wrong .0) .1 (wrong .1) in
     let clash : _≡_ {A = ℕ} 0 1 = cc in
     absurd (omega arith))
-    (start-decided table (length store))
+    (start-decided setup (length store))
 
-module _ (table store : List ℕ) (starts : Starts table store) where
+module _ (setup : Setup) (store : List ℕ) (starts : Starts setup store) where
+  abbrev table : List ℕ
+  table = setup .table
+
   abbrev fresh : State
   fresh = record { found = nothingSeen (rowsOf table); store = zeros (needOf table) ++ drop (needOf table) store }
 
-  started-fresh : started table store ≡ fresh
+  started-fresh : started setup store ≡ fresh
   unfolding startOf
-  started-fresh = rw (start-passes table (length store) (start-ready table store starts))
+  started-fresh = rw (start-passes setup (length store) (start-ready setup store starts))
 
   fresh-length : length (fresh .store) ≡ length store
   fresh-length =
-      let room : needOf table ≤ length store = start-ready table store starts .room in
+      let room : needOf table ≤ length store = start-ready setup store starts .room in
       simp (length-append, length-replicate, length-drop) (omega arith)
 
   -- No runs before the first event.
@@ -122,7 +127,7 @@ module _ (table store : List ℕ) (starts : Starts table store) where
         event = refl;
         time = refl;
         seen = refl;
-        ready = rw fresh-length (start-ready table store starts);
+        ready = rw fresh-length (room-of (start-ready setup store starts));
         sized = record { truths = length-replicate {A = ℕ} rowLimit 0; counts = length-replicate {A = ℕ} rowLimit 0 };
         sound = fresh-sound;
         follows = λ row known.
@@ -134,5 +139,5 @@ module _ (table store : List ℕ) (starts : Starts table store) where
             };
       }
 
-  pub start-right : Invariant table [] 0 (started table store)
+  pub start-right : Invariant table [] 0 (started setup store)
   start-right = rw started-fresh start-fresh

@@ -4,22 +4,27 @@ use mathlib.Core.Path.{refl}
 use Prim.Native.Nat.{ℕ}
 use Rattle.meaning.specs.History.{Event, lastTime}
 use Rattle.meaning.specs.Heartbeat.{trueEvents}
+use Rattle.soundness.specs.Setup.{Setup}
 use Rattle.monitor.specs.Step.{Call}
 use Rattle.promises.specs.Stream.{State, Starts, started, after, kept, state, history, clock}
+use Rattle.promises.specs.Conditions.{ListRight}
 use Rattle.promises.proofs.Invariant.{Invariant}
-use Rattle.promises.proofs.StartRight.{start-right}
+use Rattle.promises.proofs.StartRight.{start-ready, start-right}
 use Rattle.promises.proofs.CallKept.{next-kept}
 
-calls-kept : (table : List ℕ) (all : List Event) (s : State) (calls : List Call)
-    → Invariant table (trueEvents all) (lastTime all) s
-    → Invariant table (trueEvents (kept all calls)) (lastTime (kept all calls)) (after table s calls)
+calls-kept : (setup : Setup)
+    → ListRight (setup .table) (setup .list)
+    → (all : List Event) (s : State) (calls : List Call)
+    → Invariant (setup .table) (trueEvents all) (lastTime all) s
+    → Invariant (setup .table) (trueEvents (kept all calls)) (lastTime (kept all calls)) (after setup s calls)
 unfolding kept after
-calls-kept table all s [] inv = inv
-calls-kept table all s (c ∷ calls) inv = calls-kept table _ _ calls (next-kept table all s inv c _ refl)
+calls-kept setup listed all s [] inv = inv
+calls-kept setup listed all s (c ∷ calls) inv = calls-kept setup listed _ _ calls (next-kept setup listed all s inv c _ refl)
 
-pub stream-kept : (table store : List ℕ)
-    → Starts table store
+pub stream-kept : (setup : Setup) (store : List ℕ)
+    → Starts setup store
     → (calls : List Call)
-    → Invariant table (history calls) (clock calls) (state table store calls)
+    → Invariant (setup .table) (history calls) (clock calls) (state setup store calls)
 unfolding trueEvents
-stream-kept table store starts calls = calls-kept table [] (started table store) calls (start-right table store starts)
+stream-kept setup store starts calls =
+    calls-kept setup (start-ready setup store starts .listed) [] (started setup store) calls (start-right setup store starts)

@@ -9,6 +9,7 @@ use Rattle.meaning.specs.Heartbeat.{Heartbeat, heartbeat?, trueEvents}
 use Rattle.meaning.proofs.SpansLaws.{by-leb}
 use Rattle.meaning.proofs.Tells.{Tells, tells-leb, tells-eqb, tells-and, tells-same, told-true, told-false}
 use Rattle.times.specs.Times.{timeLimit}
+use Rattle.soundness.specs.Setup.{Setup}
 use Rattle.monitor.specs.Step.{Call, timeOf}
 use Rattle.promises.specs.Stream.{State, next, after, started, Keeps, keeps?, eventOf, kept, clock, OneMore}
 
@@ -23,10 +24,10 @@ keeps-cases P last c kept late earlier =
     (λ within. by-leb P last (timeOf last c) (λ risen. kept (record { within = within; risen = risen })) (earlier within))
     late
 
-pub after-append : (table : List ℕ) (s : State) (calls more : List Call) → after table s (calls ++ more) ≡ after table (after table s calls) more
+pub after-append : (setup : Setup) (s : State) (calls more : List Call) → after setup s (calls ++ more) ≡ after setup (after setup s calls) more
 unfolding after
-after-append table s [] more = refl
-after-append table s (c ∷ calls) more = after-append table (next table s c) calls more
+after-append setup s [] more = refl
+after-append setup s (c ∷ calls) more = after-append setup (next setup s c) calls more
 
 pub kept-append : (before : List Event) (calls more : List Call) → kept before (calls ++ more) ≡ kept (kept before calls) more
 unfolding kept
@@ -62,11 +63,11 @@ pub beat-more : (e : Event) (all : List Event) → Heartbeat (e .mask) → trueE
 unfolding trueEvents
 beat-more e all beat = rw (told-true (beats-told (e .mask)) beat)
 
-pub one-more : (table store : List ℕ) (calls : List Call) (c : Call) → OneMore table store calls c
+pub one-more : (setup : Setup) (store : List ℕ) (calls : List Call) (c : Call) → OneMore setup store calls c
 unfolding after
-one-more table store calls c =
+one-more setup store calls c =
     record {
-      left = after-append table (started table store) calls (c ∷ []);
+      left = after-append setup (started setup store) calls (c ∷ []);
       moved = λ keeps. ap lastTime (kept-more calls c keeps);
       event = λ keeps no-beat. ap trueEvents (kept-more calls c keeps) ∙ event-more (eventOf (clock calls) c) (kept [] calls) no-beat;
       heartbeat = λ keeps beat. ap trueEvents (kept-more calls c keeps) ∙ beat-more (eventOf (clock calls) c) (kept [] calls) beat;

@@ -31,7 +31,8 @@ use Rattle.soundness.specs.Soundness.{soundLimits?}
 use Rattle.spans.proofs.LayoutLaws.{Stored}
 use Rattle.sound_spans.proofs.SoundTold.{sound-stored, stretch-told}
 use Rattle.monitor.proofs.EventLaws.{length-stretch}
-use Rattle.promises.specs.Conditions.{LengthRight, LimitsRight, Ready, SinceKind, IsSince, RowSound, StretchRight}
+use Rattle.promises.specs.Conditions.{LengthRight, LimitsRight, SinceKind, IsSince, RowSound, StretchRight}
+use Rattle.promises.proofs.TableRefusals.{TableRoom}
 use Rattle.promises.proofs.Deciding.{same-tells}
 use Rattle.promises.proofs.RangeLaws.{latest-storable}
 
@@ -84,7 +85,7 @@ row-stored n now event S within range sound =
     sound-stored now (max now (event + n .a)) (event +End endOf (n .b)) (lengthOf (n .a) (endOf (n .b))) S
     (latest-storable event (n .a) (n .b) within range) sound
 
-module _ (table store : List ℕ) (ready : Ready table (length store)) (found : Record) where
+module _ (table store : List ℕ) (ready : TableRoom table (length store)) (found : Record) where
   stretch-length : (row : ℕ) → row < rowsOf table → length (stretchAt table store row) ≡ width (numbersAt table row)
   stretch-length row lower = length-stretch table store row (omega (arith, stretch-before table row (rowsOf table) lower, ready .room))
 

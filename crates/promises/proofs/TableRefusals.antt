@@ -1,4 +1,4 @@
--- The check of a table, and of a store's size for it, refuses what the table of refusals says, and passes what is right.
+-- The check of a table, and of a list and a store's size for it, refuses what the table of refusals says, and passes what is right.
 use mathlib.Core.List.{List}
 use mathlib.Core.Logic.{_⊎_, inl, inr, ⊎-elim, ⊎-map}
 use mathlib.Core.Option.{none}
@@ -14,13 +14,15 @@ use Rattle.refusals.specs.Refusals.{Refused, refused}
 use Rattle.rules.specs.Rows.{rowsOf, numbersAt}
 use Rattle.rules.specs.Stretches.{offset, needOf}
 use Rattle.rules.specs.Table.{firstFault, passed, refusedBy, checkOf}
-use Rattle.refusals.specs.declared.refusal.Refusal.the-variants.{Length, Row, Limits, Store}
+use Rattle.refusals.specs.declared.refusal.Refusal.the-variants.{Length, Row, Limits, Store, RowList}
 use Rattle.rules.proofs.TableLaws.{fault-row, fault-limits, fault-none, first-at, whole-rows-told, SoFar, refused-at, passed-at, refused-length}
 use Rattle.rules.specs.declared.numbers.Numbers.{Numbers}
+use Rattle.soundness.specs.Setup.{Setup}
 use Rattle.soundness.specs.Ready.{readyOf}
-use Rattle.promises.specs.Conditions.{LengthRight, RowRight, LimitsRight, RowsRight, TableRight, Ready}
-use Rattle.promises.specs.Refusing.{TableRefused, one, two, three, StartRefused, table, four}
+use Rattle.promises.specs.Conditions.{LengthRight, RowRight, LimitsRight, RowsRight, TableRight, ListRight, Ready}
+use Rattle.promises.specs.Refusing.{TableRefused, one, two, three, StartRefused, table, ten, four}
 use Rattle.promises.proofs.TableTold.{length-told, row-told, limits-told}
+use Rattle.promises.proofs.ListTold.{list-told}
 
 module _ (rules : List ℕ) where
   rows-no-fault : (n : ℕ) → RowsRight rules n → firstFault rules n ≡ none
@@ -108,24 +110,50 @@ module _ (rules : List ℕ) where
       (λ wrong. inr (refused Length, one wrong))
       (tells-decided (length-told rules))
 
--- With a store of a size.
-module _ (rules : List ℕ) (size : ℕ) where
-  pub start-refuses : (fault : Refused) → StartRefused rules size fault → readyOf rules size ≡ refusedBy fault
-  unfolding readyOf
-  start-refuses fault (table wrong) = rw (table-refuses rules fault wrong)
-  start-refuses _ (four right short) = rw (table-passes rules right, lt-leb (needOf rules) size short)
+-- What the table alone needs of a store, whatever the list: it is right, and the store has its need.
+pub record TableRoom (rules : List ℕ) (size : ℕ) : Type 0 where
+  pub right : TableRight rules
+  pub room : needOf rules ≤ size
 
-  pub start-passes : Ready rules size → readyOf rules size ≡ passed (rowsOf rules) (needOf rules)
-  unfolding readyOf
-  start-passes ready = rw (table-passes rules (ready .right), le-leb (needOf rules) size (ready .room))
+pub room-of : {setup : Setup} {size : ℕ} → Ready setup size → TableRoom (setup .table) size
+room-of ready = record { right = ready .right; room = ready .room }
 
-  pub start-decided : Ready rules size ⊎ ((fault : Refused) × StartRefused rules size fault)
+pub ready-of : {setup : Setup} {size : ℕ} → ListRight (setup .table) (setup .list) → TableRoom (setup .table) size → Ready setup size
+ready-of listed room = record { right = room .right; listed = listed; room = room .room }
+
+-- With a list and a store of a size.
+module _ (setup : Setup) (size : ℕ) where
+  pub start-refuses : (fault : Refused) → StartRefused setup size fault → readyOf setup size ≡ refusedBy fault
+  unfolding readyOf
+  start-refuses fault (table wrong) = rw (table-refuses (setup .table) fault wrong)
+  start-refuses _ (ten right wrong) = rw (table-passes (setup .table) right, told-false (list-told (setup .table) (setup .list)) wrong)
+  start-refuses _ (four right listed short) =
+      rw (
+        table-passes (setup .table) right,
+        told-true (list-told (setup .table) (setup .list)) listed,
+        lt-leb (needOf (setup .table)) size short,
+      )
+
+  pub start-passes : Ready setup size → readyOf setup size ≡ passed (rowsOf (setup .table)) (needOf (setup .table))
+  unfolding readyOf
+  start-passes ready =
+      rw (
+        table-passes (setup .table) (ready .right),
+        told-true (list-told (setup .table) (setup .list)) (ready .listed),
+        le-leb (needOf (setup .table)) size (ready .room),
+      )
+
+  pub start-decided : Ready setup size ⊎ ((fault : Refused) × StartRefused setup size fault)
   start-decided =
       ⊎-elim
       (λ right.
+      ⊎-elim
+      (λ listed.
       ⊎-map
-      (λ room. record { right = right; room = room })
-      (λ short. (refused Store, four right short))
-      (le-or-lt (needOf rules) size))
+      (λ room. record { right = right; listed = listed; room = room })
+      (λ short. (refused Store, four right listed short))
+      (le-or-lt (needOf (setup .table)) size))
+      (λ wrong. inr (refused RowList, ten right wrong))
+      (tells-decided (list-told (setup .table) (setup .list))))
       (λ wrong. inr (wrong .0, table (wrong .1)))
-      (table-decided rules)
+      (table-decided (setup .table))

@@ -3,7 +3,8 @@
 use mathlib.Core.List.{List, _++_}
 use Prim.Native.Nat.{ℕ}
 use lib.ListN.{take, drop}
-use Rattle.monitor.specs.Step.{Setup, Call, Reply, Outcome, stepOf}
+use Rattle.soundness.specs.Setup.{Setup}
+use Rattle.monitor.specs.Step.{Call, Reply, Outcome, stepOf}
 use Rattle.promises.specs.Stream.{State, accepted?}
 use Rattle.promises.specs.LeftOut.{Machine, Unchanged}
 

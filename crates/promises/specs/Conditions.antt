@@ -1,5 +1,5 @@
 -- The conditions of document 01's table of refusals, as document 02 amends them, as propositions in their words, apart from the tests that the contracts
--- cite (`rowPasses`, `limitsPass`, `sound?`).
+-- cite (`rowPasses`, `limitsPass`, `listPasses`, `sound?`).
 use mathlib.Core.Bool.{false}
 use mathlib.Core.List.{List}
 use mathlib.Core.Logic.{_⊎_}
@@ -11,14 +11,17 @@ use Rattle.meaning.specs.Spans.{Span}
 use Rattle.meaning.specs.Sound.{SoundSpans, lengthOf}
 use Rattle.meaning.specs.Figure.{figure}
 use Rattle.meaning.specs.Heartbeat.{heartbeatBit}
+use Rattle.row_list.specs.RowList.{listLimit}
 use Rattle.rules.specs.Limits.{rowNumbers, rowLimit, longest}
 use Rattle.rules.specs.Rows.{rowsOf, numbersAt}
 use Rattle.rules.specs.Stretches.{width, needOf}
 use Rattle.rules.specs.declared.numbers.Numbers.{Numbers}
 use Rattle.soundness.specs.declared.record.Record.{Record}
+use Rattle.soundness.specs.Setup.{Setup}
 use Rattle.spans.specs.Layout.{Laid}
 use Rattle.times.specs.Times.{timeLimit}
-use Rattle.soundness.specs.Record.{wasSeen, truthAt, heldAt, stretchAt, clockOf, eventTime}
+use Rattle.row_list.specs.Truths.{truthAt}
+use Rattle.soundness.specs.Record.{wasSeen, heldAt, stretchAt, clockOf, eventTime}
 
 -- 1: "table length not a multiple of 5, or rows not 1 to 64" is that this fails.
 pub record LengthRight (table : List ℕ) : Type 0 where
@@ -53,10 +56,18 @@ pub record TableRight (table : List ℕ) : Type 0 where
   pub lengths : LengthRight table
   pub rows : RowsRight table (rowsOf table)
 
--- The table is right, and 4: "store shorter than the need" is not so.
-pub record Ready (table : List ℕ) (size : ℕ) : Type 0 where
-  pub right : TableRight table
-  pub room : needOf table ≤ size
+-- 10: "a list of 1 to 16 row numbers, strictly rising, each within the table; otherwise refusal 10" (document 02, E4) is that this fails.
+pub record ListRight (table list : List ℕ) : Type 0 where
+  pub least : 1 ≤ length list
+  pub most : length list ≤ listLimit
+  pub rising : (i j : ℕ) → i < j → j < length list → getD list i 0 < getD list j 0
+  pub within : (i : ℕ) → i < length list → getD list i 0 < rowsOf table
+
+-- The table and the list are right, and 4: "store shorter than the need" is not so.
+pub record Ready (setup : Setup) (size : ℕ) : Type 0 where
+  pub right : TableRight (setup .table)
+  pub listed : ListRight (setup .table) (setup .list)
+  pub room : needOf (setup .table) ≤ size
 
 -- A since row is of kind 6; "The sound record counts these rows as since rows" (document 02, E1) of once and always, kinds 7 and 8.
 abbrev pub SinceKind : ℕ → Type 0

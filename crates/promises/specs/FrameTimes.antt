@@ -8,6 +8,7 @@ use Prim.Native.Nat.{ℕ, _≤_}
 use lib.Dec.{T}
 use Rattle.meaning.specs.FrameTime.{counterOf, TrueTimes}
 use Rattle.times.specs.Times.{timeLimit}
+use Rattle.soundness.specs.Setup.{Setup}
 use Rattle.monitor.specs.Step.{Call, event, frame, Reply}
 use Rattle.promises.specs.Stream.{Starts, started, accepted?, Keeps, clock}
 use Rattle.promises.specs.LineTimes.{replies, recordTimes, Every, acceptedTimes}
@@ -32,26 +33,26 @@ ofFrames (event time mask ∷ calls) (entry ∷ entries) = ofFrames calls entrie
 ofFrames (frame counter mask ∷ calls) (entry ∷ entries) = entry ∷ ofFrames calls entries
 
 -- What each frame is answered, and the record's clock after it.
-abbrev pub frameReplies : List ℕ → List ℕ → List Call → List Reply
-frameReplies table store calls = ofFrames calls (replies table (started table store) calls)
+abbrev pub frameReplies : Setup → List ℕ → List Call → List Reply
+frameReplies setup store calls = ofFrames calls (replies setup (started setup store) calls)
 
-abbrev pub frameTimes : List ℕ → List ℕ → List Call → List ℕ
-frameTimes table store calls = ofFrames calls (recordTimes table (started table store) calls)
+abbrev pub frameTimes : Setup → List ℕ → List Call → List ℕ
+frameTimes setup store calls = ofFrames calls (recordTimes setup (started setup store) calls)
 
 -- Where all true times are as the demand says, and within the limit, each frame is accepted, with a verdict or "clock moved", and the record's clock is its
 -- true time.
 -- Where those of the accepted frames are as the demand says, and the others any at all, the record's clock after each accepted frame is its true time.
-pub record FramesTimed (table store : List ℕ) (calls : List Call) (times : List ℕ) : Type 0 where
+pub record FramesTimed (setup : Setup) (store : List ℕ) (calls : List Call) (times : List ℕ) : Type 0 where
   pub all : TrueTimes times
       → Every (λ (time : ℕ). time ≤ timeLimit) times
-      → Every (λ (reply : Reply). T (accepted? reply)) (frameReplies table store calls) × (frameTimes table store calls ≡ times)
-  pub accepted-ones : TrueTimes (acceptedTimes (frameReplies table store calls) times)
-      → acceptedTimes (frameReplies table store calls) (frameTimes table store calls) ≡ acceptedTimes (frameReplies table store calls) times
+      → Every (λ (reply : Reply). T (accepted? reply)) (frameReplies setup store calls) × (frameTimes setup store calls ≡ times)
+  pub accepted-ones : TrueTimes (acceptedTimes (frameReplies setup store calls) times)
+      → acceptedTimes (frameReplies setup store calls) (frameTimes setup store calls) ≡ acceptedTimes (frameReplies setup store calls) times
 
 -- Calls whose frames have the counters of true times.
 abbrev pub FrameTimesAreTrue : Type 0
-FrameTimesAreTrue = (table store : List ℕ) (calls : List Call) (times : List ℕ)
-    → Starts table store
+FrameTimesAreTrue = (setup : Setup) (store : List ℕ) (calls : List Call) (times : List ℕ)
+    → Starts setup store
     → OnlyFramesMove calls
     → frameCounters calls ≡ map counterOf times
-    → FramesTimed table store calls times
+    → FramesTimed setup store calls times

@@ -11,6 +11,7 @@ pub mod SpareWords
 pub mod SoundIsKept
 pub mod Formulas
 pub mod Verdicts
+pub mod OtherList
 pub mod LineTimes
 pub mod FrameTimes
 pub mod Need

@@ -11,6 +11,7 @@ use Rattle.kinds.specs.Kinds.{stretch, xSinceY, onceX, alwaysX, hasStretch}
 use Rattle.rules.specs.Rows.{rowsOf, numbersAt, ruleOf}
 use Rattle.rules.specs.Stretches.{needOf}
 use Rattle.rules.specs.declared.numbers.Numbers.{Numbers}
+use Rattle.soundness.specs.Setup.{Setup}
 use Rattle.monitor.specs.Start.{startOf}
 use Rattle.promises.specs.Conditions.{IsSince}
 use Rattle.promises.specs.Stream.{Starts}
@@ -36,4 +37,4 @@ pub record NeedFollows : Type 0 where
   pub row : (n : Numbers) → OwnsStretch n
   pub table : (table : List ℕ) → Needs table (rowsOf table) (needOf table)
   -- A good start answers it.
-  pub start : (table store : List ℕ) → Starts table store → startOf table store .need ≡ needOf table
+  pub start : (setup : Setup) (store : List ℕ) → Starts setup store → startOf setup store .need ≡ needOf (setup .table)

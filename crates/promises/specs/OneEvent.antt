@@ -2,7 +2,7 @@
 -- false, then t+a to t+b is joined in if y is true"; "An unreached but sound record, or another table that passes, is answered by the same one-event rules
 -- from the spans and truths found." For every setup, store and record, and every call that is accepted with them: the record is then sound, whether or not
 -- a stream reaches it. Of a heartbeat "spans are clipped at its time, truths stay those of the last true event" (document 02, E2).
-use mathlib.Core.Bool.{Bool, true, not}
+use mathlib.Core.Bool.{true, not}
 use mathlib.Core.List.{List}
 use mathlib.Core.Logic.{_↔_, _⊎_}
 use mathlib.Core.Path.{_≡_}
@@ -16,8 +16,10 @@ use Rattle.rules.specs.Rows.{rowsOf, numbersAt, ruleOf, keptBy, fedBy}
 use Rattle.rules.specs.Stretches.{width}
 use Rattle.spans.specs.Layout.{Laid}
 use Rattle.soundness.specs.declared.record.Record.{Record}
-use Rattle.soundness.specs.Record.{truthAt, heldAt, stretchAt, spansFound, clockOf, eventTime}
-use Rattle.monitor.specs.Step.{Setup, Call, timeOf, verdict, clockMoved, stepOf}
+use Rattle.row_list.specs.Truths.{truthAt}
+use Rattle.soundness.specs.Record.{heldAt, stretchAt, spansFound, clockOf, eventTime}
+use Rattle.soundness.specs.Setup.{Setup}
+use Rattle.monitor.specs.Step.{Call, timeOf, verdict, clockMoved, stepOf}
 use Rattle.promises.specs.SoundIsKept.{Sized}
 use Rattle.promises.specs.Spans.{InOrOut}
 
@@ -53,9 +55,9 @@ pub record OneEvent (setup : Setup) (store : List ℕ) (found : Record) (c : Cal
   pub laid : LaysOut (setup .table) row (stepOf setup store found c .store) (stepOf setup store found c .left) spans
 
 abbrev pub OneEventFromAny : Type 0
-OneEventFromAny = (setup : Setup) (store : List ℕ) (found : Record) (c : Call) (holds : Bool) (row : ℕ) (columns : Stretch)
+OneEventFromAny = (setup : Setup) (store : List ℕ) (found : Record) (c : Call) (number : ℕ) (row : ℕ) (columns : Stretch)
     → Sized found
-    → stepOf setup store found c .reply ≡ verdict holds
+    → stepOf setup store found c .reply ≡ verdict number
     → row < rowsOf (setup .table)
     → ruleOf (numbersAt (setup .table) row) ≡ stretch columns
     → OneEvent setup store found c row columns

@@ -4,13 +4,15 @@ use mathlib.Core.List.{List, [], _∷_}
 use mathlib.Core.Logic.{_↔_}
 use mathlib.Core.Path.{_≡_}
 use Prim.Native.Nat.{ℕ, _+_, _*_, _%_, _≤_, _<_}
-use lib.ListN.{length}
+use lib.ListN.{length, getD}
 use Rattle.refusals.specs.Refusals.{Refused, refused}
 use Rattle.refusals.specs.declared.refusal.Refusal.the-variants.{BadLine, BadSum}
+use Rattle.row_list.specs.RowList.{listLimit}
 use Rattle.lines.specs.Digits.{byteAt, byte0, byte9, byteA, byteF, byteDigits, byteValues, hexAt}
 use Rattle.lines.specs.Line.{lineFeed, sumAt, digitsOf}
 use Rattle.lines.specs.Read.{atEnd, goodLine, badLine, Read}
 use Rattle.lines.specs.Frame.{readFrame}
+use Rattle.lines.specs.ListLine.{readList}
 use Rattle.lines.specs.Rule.{readRule}
 
 -- "digits 0-9 A-F".
@@ -39,11 +41,11 @@ pub record LineGood (bytes : ℕ) (shows : List ℕ → ℕ → List ℕ) (text 
   pub sum : SumRight bytes text place
   pub shown : given ≡ shows text place
 
--- What is said of a line, if and only if.
-pub record SaidExactly (read : List ℕ → ℕ → Read) (bytes : ℕ) (shows : List ℕ → ℕ → List ℕ) : Type 0 where
+-- What is said of a line, if and only if: `Wrong` is what is refused, `Good` is a good line and its numbers.
+pub record SaidExactly (read : List ℕ → ℕ → Read) (Wrong : List ℕ → ℕ → Refused → Type 0) (Good : List ℕ → ℕ → List ℕ → Type 0) : Type 0 where
   pub ends : (text : List ℕ) (place : ℕ) → (read text place .said ≡ atEnd) ↔ (length text ≤ place)
-  pub refuses : (text : List ℕ) (place : ℕ) (fault : Refused) → (read text place .said ≡ badLine fault) ↔ LineRefused bytes text place fault
-  pub reads : (text : List ℕ) (place : ℕ) (given : List ℕ) → (read text place .said ≡ goodLine given) ↔ LineGood bytes shows text place given
+  pub refuses : (text : List ℕ) (place : ℕ) (fault : Refused) → (read text place .said ≡ badLine fault) ↔ Wrong text place fault
+  pub reads : (text : List ℕ) (place : ℕ) (given : List ℕ) → (read text place .said ≡ goodLine given) ↔ Good text place given
 
 -- "counter (4 digits), mask (8), sum (2) of the six bytes ..: 15 bytes".
 abbrev pub dataBytes : ℕ
@@ -63,9 +65,45 @@ abbrev pub ruleNumbers : List ℕ → ℕ → List ℕ
 ruleNumbers text place =
     hexAt text place 2 ∷ hexAt text (place + 2) 2 ∷ hexAt text (place + 4) 2 ∷ hexAt text (place + 6) 8 ∷ hexAt text (place + 14) 8 ∷ []
 
+-- Document 02, E4: "AA, with which no rule line may start".
+pub record Marked (text : List ℕ) (place : ℕ) : Type 0 where
+  pub first : byteAt text place ≡ byteA
+  pub second : byteAt text (place + 1) ≡ byteA
+
+-- A rule line that starts with AA is refused 8, any other as a line of its bytes.
+pub data RuleRefused (text : List ℕ) (place : ℕ) : Refused → Type 0 where
+  marked : Marked text place → RuleRefused text place (refused BadLine)
+  unmarked : (fault : Refused) → ¬ Marked text place → LineRefused ruleBytes text place fault → RuleRefused text place fault
+
+pub record RuleGood (text : List ℕ) (place : ℕ) (given : List ℕ) : Type 0 where
+  pub unmarked : ¬ Marked text place
+  pub line : LineGood ruleBytes ruleNumbers text place given
+
+-- A list line: "AA, .. 1 to 16 two-digit row numbers, the sum of all these bytes modulo 256". AA is one of the data bytes.
+abbrev pub listBytes : ℕ → ℕ
+listBytes count = 1 + count
+
+pub record ListFormed (count : ℕ) (text : List ℕ) (place : ℕ) : Type 0 where
+  pub least : 1 ≤ count
+  pub most : count ≤ listLimit
+  pub marked : Marked text place
+  pub line : WellFormed (listBytes count) text place
+
+-- "A list line of bad form or sum".
+pub data ListRefused (text : List ℕ) (place : ℕ) : Refused → Type 0 where
+  bad-form : place < length text → ((count : ℕ) → ¬ ListFormed count text place) → ListRefused text place (refused BadLine)
+  bad-sum : (count : ℕ) → ListFormed count text place → ¬ SumRight (listBytes count) text place → ListRefused text place (refused BadSum)
+
+-- A good list line and its row numbers, which need not rise.
+pub record ListGood (text : List ℕ) (place : ℕ) (given : List ℕ) : Type 0 where
+  pub formed : ListFormed (length given) text place
+  pub sum : SumRight (listBytes (length given)) text place
+  pub shown : (k : ℕ) → k < length given → getD given k 0 ≡ hexAt text (place + (byteDigits + byteDigits * k)) byteDigits
+
 pub record ReadRefusedExactly : Type 0 where
-  pub frame : SaidExactly readFrame dataBytes counterAndMask
-  pub rule : SaidExactly readRule ruleBytes ruleNumbers
+  pub frame : SaidExactly readFrame (LineRefused dataBytes) (LineGood dataBytes counterAndMask)
+  pub rule : SaidExactly readRule RuleRefused RuleGood
+  pub list : SaidExactly readList ListRefused ListGood
 
 -- "past the first line feed at or after it, or to the end if there is none".
 abbrev pub NoLineFeed : List ℕ → ℕ → ℕ → Type 0
@@ -76,8 +114,17 @@ pub data Past (text : List ℕ) (place next : ℕ) : Type 0 where
   none : NoLineFeed text place (length text) → next ≡ length text → Past text place next
 
 -- "A place at or past the end answers 'end', place unchanged. After a good line the place moves 15. After 8 or 9 it moves past the first line
--- feed .."
-pub record PlaceMoves (text : List ℕ) (place : ℕ) : Type 0 where
-  pub ended : readFrame text place .said ≡ atEnd → readFrame text place .next ≡ place
-  pub good : (given : List ℕ) → readFrame text place .said ≡ goodLine given → readFrame text place .next ≡ place + frameBytes
-  pub refused : (fault : Refused) → readFrame text place .said ≡ badLine fault → Past text place (readFrame text place .next)
+-- feed ..": 15 for a frame, and for any line as many bytes as it has.
+pub record PlaceMoves (read : List ℕ → ℕ → Read) (size : List ℕ → ℕ) (text : List ℕ) (place : ℕ) : Type 0 where
+  pub ended : read text place .said ≡ atEnd → read text place .next ≡ place
+  pub good : (given : List ℕ) → read text place .said ≡ goodLine given → read text place .next ≡ place + size given
+  pub refused : (fault : Refused) → read text place .said ≡ badLine fault → Past text place (read text place .next)
+
+-- The digits of the data bytes and of the sum, and the line feed.
+abbrev pub lineBytes : ℕ → ℕ
+lineBytes bytes = digitsOf bytes + 1
+
+pub record PlacesMove (text : List ℕ) (place : ℕ) : Type 0 where
+  pub frame : PlaceMoves readFrame (λ given. frameBytes) text place
+  pub rule : PlaceMoves readRule (λ given. lineBytes ruleBytes) text place
+  pub list : PlaceMoves readList (λ given. lineBytes (listBytes (length given))) text place

@@ -9,13 +9,14 @@ use Rattle.refusals.specs.Refusals.{Refused, refused}
 use Rattle.rules.specs.Rows.{rowsOf, numbersAt}
 use Rattle.rules.specs.Stretches.{needOf}
 use Rattle.rules.specs.Table.{refusedBy, checkOf}
-use Rattle.refusals.specs.declared.refusal.Refusal.the-variants.{Length, Row, Limits, Store, Earlier, Late, Unsound}
+use Rattle.refusals.specs.declared.refusal.Refusal.the-variants.{Length, Row, Limits, Store, Earlier, Late, Unsound, RowList}
 use Rattle.soundness.specs.declared.record.Record.{Record}
 use Rattle.times.specs.Times.{timeLimit}
 use Rattle.soundness.specs.Record.{nothingSeen, clockOf}
 use Rattle.monitor.specs.Start.{startOf}
-use Rattle.monitor.specs.Step.{Setup, Call, timeOf, refusal, stepOf, notAt, frameTimeOf}
-use Rattle.promises.specs.Conditions.{LengthRight, RowRight, LimitsRight, RowsRight, TableRight, Ready, RecordRight}
+use Rattle.soundness.specs.Setup.{Setup}
+use Rattle.monitor.specs.Step.{Call, timeOf, refusal, stepOf, notAt, frameTimeOf}
+use Rattle.promises.specs.Conditions.{LengthRight, RowRight, LimitsRight, RowsRight, TableRight, ListRight, Ready, RecordRight}
 
 -- The table of refusals, a line a condition, each with what those tried before it leave: what refuses with which number and values.
 -- "Among rows the first bad row decides": every row below r is right and r is not.
@@ -35,20 +36,25 @@ pub data TableRefused (table : List ℕ) : Refused → Type 0 where
       → ¬ LimitsRight (numbersAt table r .a) (numbersAt table r .b)
       → TableRefused table (refused (Limits r))
 
-pub data StartRefused (table : List ℕ) (size : ℕ) : Refused → Type 0 where
-  table : {fault : Refused} → TableRefused table fault → StartRefused table size fault
-  four : TableRight table → size < needOf table → StartRefused table size (refused Store)
+-- 10 "after 3 and before 4".
+pub data StartRefused (setup : Setup) (size : ℕ) : Refused → Type 0 where
+  table : {fault : Refused} → TableRefused (setup .table) fault → StartRefused setup size fault
+  ten : TableRight (setup .table) → ¬ ListRight (setup .table) (setup .list) → StartRefused setup size (refused RowList)
+  four : TableRight (setup .table)
+      → ListRight (setup .table) (setup .list)
+      → size < needOf (setup .table)
+      → StartRefused setup size (refused Store)
 
 pub data CallRefused (setup : Setup) (store : List ℕ) (found : Record) (c : Call) : Refused → Type 0 where
-  start : {fault : Refused} → StartRefused (setup .table) (length store) fault → CallRefused setup store found c fault
-  seven : Ready (setup .table) (length store)
+  start : {fault : Refused} → StartRefused setup (length store) fault → CallRefused setup store found c fault
+  seven : Ready setup (length store)
       → ¬ RecordRight (setup .table) store found
       → CallRefused setup store found c (refused Unsound)
-  six : Ready (setup .table) (length store)
+  six : Ready setup (length store)
       → RecordRight (setup .table) store found
       → timeLimit < timeOf (clockOf found) c
       → CallRefused setup store found c (refused Late)
-  five : Ready (setup .table) (length store)
+  five : Ready setup (length store)
       → RecordRight (setup .table) store found
       → timeOf (clockOf found) c ≤ timeLimit
       → timeOf (clockOf found) c < clockOf found
@@ -57,7 +63,7 @@ pub data CallRefused (setup : Setup) (store : List ℕ) (found : Record) (c : Ca
 -- Refused with a number and values if and only if the table of refusals says so: for the check, a start, an event or a frame, the time of a frame.
 pub record RefusedExactly : Type 0 where
   pub check : (table : List ℕ) (fault : Refused) → (checkOf table ≡ refusedBy fault) ↔ TableRefused table fault
-  pub start : (table store : List ℕ) (fault : Refused) → (startOf table store .refusal ≡ some fault) ↔ StartRefused table (length store) fault
+  pub start : (setup : Setup) (store : List ℕ) (fault : Refused) → (startOf setup store .refusal ≡ some fault) ↔ StartRefused setup (length store) fault
   pub call : (setup : Setup) (store : List ℕ) (found : Record) (c : Call) (fault : Refused)
       → (stepOf setup store found c .reply ≡ refusal fault) ↔ CallRefused setup store found c fault
   pub time : (last counter : ℕ) (fault : Refused)
@@ -68,6 +74,6 @@ pub record RefusalChangesNothing : Type 0 where
   pub call : (setup : Setup) (store : List ℕ) (found : Record) (c : Call) (fault : Refused)
       → stepOf setup store found c .reply ≡ refusal fault
       → (stepOf setup store found c .left ≡ found) × (stepOf setup store found c .store ≡ store)
-  pub start : (table store : List ℕ) (fault : Refused)
-      → startOf table store .refusal ≡ some fault
-      → (startOf table store .given ≡ nothingSeen 0) × (startOf table store .store ≡ store)
+  pub start : (setup : Setup) (store : List ℕ) (fault : Refused)
+      → startOf setup store .refusal ≡ some fault
+      → (startOf setup store .given ≡ nothingSeen 0) × (startOf setup store .store ≡ store)

@@ -15,23 +15,24 @@ use Rattle.kinds.specs.declared.stretch.Stretch.{Stretch}
 use Rattle.rules.specs.Rows.{rowsOf, numbersAt, ruleOf}
 use Rattle.rules.specs.Stretches.{spansOf, needOf}
 use Rattle.refusals.specs.declared.refusal.Refusal.the-variants.{Store, Unsound}
+use Rattle.soundness.specs.Setup.{Setup, setupOf}
 use Rattle.monitor.specs.Step.{Call, event, refusal}
 use Rattle.promises.specs.Stream.{Starts, state, history, clock, outcome}
 use Rattle.promises.specs.Conditions.{LimitsRight, SinceKind}
 use Rattle.promises.specs.Spans.{RowRuns}
 
 -- No call of a stream answers 4 or 7; and the runs, whatever room there is, are at most the figure.
-pub record NeverShort (table store : List ℕ) (calls : List Call) : Type 0 where
-  pub room : (c : Call) → ¬ (outcome table store calls c .reply ≡ refusal (refused Store))
-  pub sound : (c : Call) → ¬ (outcome table store calls c .reply ≡ refusal (refused Unsound))
+pub record NeverShort (setup : Setup) (store : List ℕ) (calls : List Call) : Type 0 where
+  pub room : (c : Call) → ¬ (outcome setup store calls c .reply ≡ refusal (refused Store))
+  pub sound : (c : Call) → ¬ (outcome setup store calls c .reply ≡ refusal (refused Unsound))
   pub enough : (row : ℕ) (columns : Stretch) (S : List Span)
-      → row < rowsOf table
-      → ruleOf (numbersAt table row) ≡ stretch columns
-      → RowRuns table row columns (history calls) (clock calls) S
-      → length S ≤ spansOf (numbersAt table row)
+      → row < rowsOf (setup .table)
+      → ruleOf (numbersAt (setup .table) row) ≡ stretch columns
+      → RowRuns (setup .table) row columns (history calls) (clock calls) S
+      → length S ≤ spansOf (numbersAt (setup .table) row)
 
 abbrev pub NeverShortOfRoom : Type 0
-NeverShortOfRoom = (table store : List ℕ) → Starts table store → (calls : List Call) → NeverShort table store calls
+NeverShortOfRoom = (setup : Setup) (store : List ℕ) → Starts setup store → (calls : List Call) → NeverShort setup store calls
 
 -- Events at these times, each with bit 0 and no other.
 abbrev pub pulsesAt : List ℕ → List Call
@@ -41,10 +42,11 @@ pulsesAt times = map (λ (time : ℕ). event time 1) times
 abbrev pub AllKept : List Call → Type 0
 AllKept calls = length (history calls) ≡ length calls
 
--- A table with a row of this kind and exactly these limits, and a stream, all kept, after which the row's count is the figure, whatever the words of a
+-- A table with a row of this kind and exactly these limits, a list, and a stream, all kept, after which the row's count is the figure, whatever the words of a
 -- store of exactly the need.
 pub record Filled (kind a b : ℕ) : Type 0 where
   pub table : List ℕ
+  pub list : List ℕ
   pub row : ℕ
   pub inside : row < rowsOf table
   pub of-kind : numbersAt table row .kind ≡ kind
@@ -52,10 +54,10 @@ pub record Filled (kind a b : ℕ) : Type 0 where
   pub to : numbersAt table row .b ≡ b
   pub times : List ℕ
   pub kept : AllKept (pulsesAt times)
-  pub starts : (store : List ℕ) → length store ≡ needOf table → Starts table store
+  pub starts : (store : List ℕ) → length store ≡ needOf table → Starts (setupOf table list) store
   pub full : (store : List ℕ)
       → length store ≡ needOf table
-      → getD (state table store (pulsesAt times) .found .counts) row 0 ≡ figure a (endOf b)
+      → getD (state (setupOf table list) store (pulsesAt times) .found .counts) row 0 ≡ figure a (endOf b)
 
 -- The same of the runs alone, so that no other layout does with fewer.
 pub record RunsFill (a b : ℕ) : Type 0 where

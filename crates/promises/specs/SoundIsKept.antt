@@ -6,7 +6,8 @@ use lib.Dec.{T}
 use lib.ListN.{length}
 use Rattle.rules.specs.Limits.{rowLimit}
 use Rattle.soundness.specs.declared.record.Record.{Record}
-use Rattle.monitor.specs.Step.{Setup, Call, stepOf}
+use Rattle.soundness.specs.Setup.{Setup}
+use Rattle.monitor.specs.Step.{Call, stepOf}
 use Rattle.promises.specs.Stream.{accepted?}
 use Rattle.promises.specs.Conditions.{RecordRight}
 

@@ -17,7 +17,9 @@ use Rattle.rules.specs.Rows.{rowsOf, numbersAt, ruleOf, keptBy, fedBy}
 use Rattle.rules.specs.Stretches.{width}
 use Rattle.rules.specs.RowFormula.{formulaOf}
 use Rattle.spans.specs.Layout.{Laid}
-use Rattle.soundness.specs.Record.{truthAt, heldAt, stretchAt, clockOf}
+use Rattle.row_list.specs.Truths.{truthAt}
+use Rattle.soundness.specs.Record.{heldAt, stretchAt, clockOf}
+use Rattle.soundness.specs.Setup.{Setup}
 use Rattle.monitor.specs.Step.{Call}
 use Rattle.promises.specs.Stream.{State, Starts, state, history, clock}
 
@@ -50,9 +52,9 @@ pub record HoldsRuns (table : List ℕ) (row : ℕ) (columns : Stretch) (h : His
 
 -- After the start and after every call, refused or not.
 abbrev pub SpansAreTheRuns : Type 0
-SpansAreTheRuns = (table store : List ℕ)
-    → Starts table store
+SpansAreTheRuns = (setup : Setup) (store : List ℕ)
+    → Starts setup store
     → (calls : List Call) (row : ℕ) (columns : Stretch)
-    → row < rowsOf table
-    → ruleOf (numbersAt table row) ≡ stretch columns
-    → HoldsRuns table row columns (history calls) (clock calls) (state table store calls)
+    → row < rowsOf (setup .table)
+    → ruleOf (numbersAt (setup .table) row) ≡ stretch columns
+    → HoldsRuns (setup .table) row columns (history calls) (clock calls) (state setup store calls)

@@ -6,7 +6,8 @@ use lib.ListN.{length, take, drop}
 use Rattle.rules.specs.Stretches.{needOf}
 use Rattle.soundness.specs.declared.record.Record.{Record}
 use Rattle.monitor.specs.Start.{startOf}
-use Rattle.monitor.specs.Step.{Setup, Call, stepOf}
+use Rattle.soundness.specs.Setup.{Setup}
+use Rattle.monitor.specs.Step.{Call, stepOf}
 
 -- Two stores with room for the need and the same words in it.
 pub record SameNeeded (table store other : List ℕ) : Type 0 where
@@ -22,14 +23,14 @@ pub record Alike (setup : Setup) (store other : List ℕ) (found : Record) (c : 
   pub spare : drop (needOf (setup .table)) (stepOf setup store found c .store) ≡ drop (needOf (setup .table)) store
 
 -- The same of a start.
-pub record BegunAlike (table store other : List ℕ) : Type 0 where
-  pub refusal : startOf table store .refusal ≡ startOf table other .refusal
-  pub given : startOf table store .given ≡ startOf table other .given
-  pub needed : take (needOf table) (startOf table store .store) ≡ take (needOf table) (startOf table other .store)
-  pub spare : drop (needOf table) (startOf table store .store) ≡ drop (needOf table) store
+pub record BegunAlike (setup : Setup) (store other : List ℕ) : Type 0 where
+  pub refusal : startOf setup store .refusal ≡ startOf setup other .refusal
+  pub given : startOf setup store .given ≡ startOf setup other .given
+  pub needed : take (needOf (setup .table)) (startOf setup store .store) ≡ take (needOf (setup .table)) (startOf setup other .store)
+  pub spare : drop (needOf (setup .table)) (startOf setup store .store) ≡ drop (needOf (setup .table)) store
 
 pub record SpareWords : Type 0 where
   pub call : (setup : Setup) (store other : List ℕ) (found : Record) (c : Call)
       → SameNeeded (setup .table) store other
       → Alike setup store other found c
-  pub start : (table store other : List ℕ) → SameNeeded table store other → BegunAlike table store other
+  pub start : (setup : Setup) (store other : List ℕ) → SameNeeded (setup .table) store other → BegunAlike setup store other

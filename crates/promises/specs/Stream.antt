@@ -1,5 +1,5 @@
--- A stream: any list of calls, of any length, with any times, counters and masks, from a good start on a table that passes and a store of any
--- contents with at least the need. And which of its calls are kept, by their times alone, and which of these are true events, by their masks.
+-- A stream: any list of calls, of any length, with any times, counters and masks, from a good start on a table and a list that pass and a
+-- store of any contents with at least the need. And which of its calls are kept, by their times alone, and which of these are true events, by their masks.
 use mathlib.Core.Bool.{Bool, true, false, cond, _&&_}
 use mathlib.Core.List.{List, [], _∷_, _++_}
 use mathlib.Core.Option.{none}
@@ -11,7 +11,8 @@ use Rattle.meaning.specs.Heartbeat.{Heartbeat, trueEvents}
 use Rattle.soundness.specs.declared.record.Record.{Record}
 use Rattle.times.specs.Times.{timeLimit}
 use Rattle.monitor.specs.Start.{startOf}
-use Rattle.monitor.specs.Step.{setupOf, Call, timeOf, maskOf, Reply, verdict, clockMoved, refusal, Outcome, stepOf}
+use Rattle.soundness.specs.Setup.{Setup}
+use Rattle.monitor.specs.Step.{Call, timeOf, maskOf, Reply, verdict, clockMoved, refusal, Outcome, stepOf}
 
 -- What the monitor works on between two calls.
 pub record State : Type 0 where
@@ -19,27 +20,27 @@ pub record State : Type 0 where
   pub store : List ℕ
 
 -- One call of the stream, and what it leaves.
-abbrev pub call : List ℕ → State → Call → Outcome
-call table s c = stepOf (setupOf table) (s .store) (s .found) c
+abbrev pub call : Setup → State → Call → Outcome
+call setup s c = stepOf setup (s .store) (s .found) c
 
-abbrev pub next : List ℕ → State → Call → State
-next table s c = record { found = call table s c .left; store = call table s c .store }
+abbrev pub next : Setup → State → Call → State
+next setup s c = record { found = call setup s c .left; store = call setup s c .store }
 
 -- The state after a list of calls, the oldest first.
-unfoldable pub after : List ℕ → State → List Call → State
-after table s [] = s
-after table s (c ∷ calls) = after table (next table s c) calls
+unfoldable pub after : Setup → State → List Call → State
+after setup s [] = s
+after setup s (c ∷ calls) = after setup (next setup s c) calls
 
--- "From a start": the table passes and the store has room for the need.
-abbrev pub Starts : List ℕ → List ℕ → Type 0
-Starts table store = startOf table store .refusal ≡ none
+-- "From a start": the table and the list pass, and the store has room for the need.
+abbrev pub Starts : Setup → List ℕ → Type 0
+Starts setup store = startOf setup store .refusal ≡ none
 
-abbrev pub started : List ℕ → List ℕ → State
-started table store = record { found = startOf table store .given; store = startOf table store .store }
+abbrev pub started : Setup → List ℕ → State
+started setup store = record { found = startOf setup store .given; store = startOf setup store .store }
 
 -- "Accepted": answered with a verdict, or with "clock moved".
 abbrev pub accepted? : Reply → Bool
-accepted? (verdict holds) = true
+accepted? (verdict number) = true
 accepted? clockMoved = true
 accepted? (refusal fault) = false
 
@@ -60,8 +61,8 @@ kept before [] = before
 kept before (c ∷ calls) = kept (cond (keeps? (lastTime before) c) (eventOf (lastTime before) c ∷ before) before) calls
 
 -- What is known of a stream so far: the monitor's state, the clock, and the history, which holds the true events alone.
-abbrev pub state : List ℕ → List ℕ → List Call → State
-state table store calls = after table (started table store) calls
+abbrev pub state : Setup → List ℕ → List Call → State
+state setup store calls = after setup (started setup store) calls
 
 abbrev pub clock : List Call → ℕ
 clock calls = lastTime (kept [] calls)
@@ -74,16 +75,16 @@ abbrev pub Beats : Call → Type 0
 Beats c = Heartbeat (maskOf c)
 
 -- One call more: what it answers and leaves, and the history where it is a true event that is kept.
-abbrev pub outcome : List ℕ → List ℕ → List Call → Call → Outcome
-outcome table store calls c = call table (state table store calls) c
+abbrev pub outcome : Setup → List ℕ → List Call → Call → Outcome
+outcome setup store calls c = call setup (state setup store calls) c
 
 abbrev pub longer : List Call → Call → History
 longer calls c = eventOf (clock calls) c ∷ history calls
 
 -- So it is: the state after the list with this call at its end is what the call leaves; a kept call moves the clock to its time, and the history of that
 -- list is the longer one at a kept true event, otherwise the same.
-pub record OneMore (table store : List ℕ) (calls : List Call) (c : Call) : Type 0 where
-  pub left : state table store (calls ++ (c ∷ [])) ≡ next table (state table store calls) c
+pub record OneMore (setup : Setup) (store : List ℕ) (calls : List Call) (c : Call) : Type 0 where
+  pub left : state setup store (calls ++ (c ∷ [])) ≡ next setup (state setup store calls) c
   pub moved : Keeps (clock calls) c → clock (calls ++ (c ∷ [])) ≡ timeOf (clock calls) c
   pub event : Keeps (clock calls) c → ¬ Beats c → history (calls ++ (c ∷ [])) ≡ longer calls c
   pub heartbeat : Keeps (clock calls) c → Beats c → history (calls ++ (c ∷ [])) ≡ history calls

@@ -6,7 +6,8 @@ use mathlib.Core.List.{List}
 use mathlib.Core.Path.{_≡_}
 use Prim.Native.Nat.{ℕ, _+_}
 use Rattle.refusals.specs.Refusals.{Refused}
-use Rattle.monitor.specs.Step.{Setup, frameOf, Reply, refusal}
+use Rattle.soundness.specs.Setup.{Setup}
+use Rattle.monitor.specs.Step.{frameOf, Reply, refusal}
 use Rattle.lines.specs.Read as line
 use Rattle.lines.specs.Read.{LineReply, Read}
 use Rattle.lines.specs.Frame.{readFrame}

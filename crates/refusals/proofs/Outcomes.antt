@@ -5,7 +5,7 @@ use mathlib.Core.Path.{_≡_, refl}
 use lib.Dec.{eqb}
 use Rattle.refusals.specs.Refusals.{Refused, refused, rowIn}
 use Rattle.refusals.specs.declared.refusal.Refusal.{Refusal}
-use Rattle.refusals.specs.declared.refusal.Refusal.the-variants.{Length, Row, Limits, Store, Earlier, Late, Unsound, BadLine, BadSum}
+use Rattle.refusals.specs.declared.refusal.Refusal.the-variants.{Length, Row, Limits, Store, Earlier, Late, Unsound, BadLine, BadSum, RowList}
 
 -- The refusal that gives this.
 abbrev pub refusalOf : Refused → Refusal
@@ -17,7 +17,8 @@ refusalOf r =
     (cond (eqb (r .number) 5) Earlier
     (cond (eqb (r .number) 6) Late
     (cond (eqb (r .number) 7) Unsound
-    (cond (eqb (r .number) 8) BadLine BadSum)))))))
+    (cond (eqb (r .number) 8) BadLine
+    (cond (eqb (r .number) 9) BadSum RowList))))))))
 
 pub refusal-back : (r : Refusal) → refusalOf (refused r) ≡ r
 refusal-back Length = refl
@@ -29,3 +30,4 @@ refusal-back Late = refl
 refusal-back Unsound = refl
 refusal-back BadLine = refl
 refusal-back BadSum = refl
+refusal-back RowList = refl

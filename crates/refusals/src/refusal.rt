@@ -23,6 +23,8 @@ pub enum Refusal {
     BadLine,
     // 9: the line's sum is wrong.
     BadSum,
+    // 10: the list of row numbers is not 1 to 16, strictly rising, each within the table.
+    RowList,
 }
 
 // The number of a refusal.
@@ -39,6 +41,7 @@ pub fn number(r: Refusal) -> u32
         Refusal::Unsound => 7,
         Refusal::BadLine => 8,
         Refusal::BadSum => 9,
+        Refusal::RowList => 10,
     }
 }
 
@@ -56,5 +59,6 @@ pub fn row(r: Refusal) -> u32
         Refusal::Unsound => 0,
         Refusal::BadLine => 0,
         Refusal::BadSum => 0,
+        Refusal::RowList => 0,
     }
 }

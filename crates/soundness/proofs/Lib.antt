@@ -1,5 +1,4 @@
 -- Laws that belong to no one function.
-pub mod RecordLaws
 pub mod ReadyLaws
 pub mod SoundnessLaws
 pub mod Outcomes

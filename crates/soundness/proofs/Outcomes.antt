@@ -7,11 +7,12 @@ use Rattle.rules.specs.Table.{checkReply}
 use Rattle.rules.specs.declared.table.Checked.{Checked}
 use Rattle.rules.proofs.Outcomes.{answerOf, answer-back}
 use Rattle.soundness.specs.declared.record.Record.{Record}
+use Rattle.soundness.specs.Setup.{Setup}
 use Rattle.soundness.specs.Ready.{Readies}
 use Rattle.soundness.specs.Fit.{Fits}
 
-pub one-ready : (table : List ℕ) (size : ℕ) (p q : Checked) → Readies table size p → Readies table size q → p ≡ q
-one-ready table size = one-said checkReply answerOf answer-back
+pub one-ready : (setup : Setup) (size : ℕ) (p q : Checked) → Readies setup size p → Readies setup size q → p ≡ q
+one-ready setup size = one-said checkReply answerOf answer-back
 
-pub one-fit : (table store : List ℕ) (found : Record) (p q : Checked) → Fits table store found p → Fits table store found q → p ≡ q
-one-fit table store found = one-said checkReply answerOf answer-back
+pub one-fit : (setup : Setup) (store : List ℕ) (found : Record) (p q : Checked) → Fits setup store found p → Fits setup store found q → p ≡ q
+one-fit setup store found = one-said checkReply answerOf answer-back

@@ -22,7 +22,8 @@ use Rattle.spans.specs.Layout.{spansFrom, zeros?}
 use Rattle.sound_spans.specs.StretchSound.{soundFrom?, soundEndless?, soundSpans?, soundStretch?}
 use Rattle.soundness.specs.declared.record.Record.{Record}
 use Rattle.times.specs.Times.{timeLimit}
-use Rattle.soundness.specs.Record.{isTrue, wasSeen, clockOf, eventTime, heldAt, stretchAt}
+use Rattle.row_list.specs.Truths.{isTrue}
+use Rattle.soundness.specs.Record.{wasSeen, clockOf, eventTime, heldAt, stretchAt}
 use Rattle.soundness.specs.Record.{heldOf, recordOf}
 use Rattle.soundness.specs.Soundness.{every, truthByte?, soundEntry?, soundLimits?, soundRow?, zeroPast?, soundTimes?, sound?}
 use Rattle.soundness.proofs.ReadyLaws.{Ready}

@@ -1,4 +1,4 @@
--- Refusals 1 to 4, then 7, with which every call begins (document 01, "Refusal numbers").
+-- Refusals 1 to 3, 10 and 4, then 7, with which every call begins (document 01, "Refusal numbers"; document 02, E4).
 use mathlib.Core.Bool.{Bool, cond}
 use mathlib.Core.List.{List}
 use mathlib.Core.Path.{_≡_}
@@ -10,16 +10,17 @@ use Rattle.rules.specs.Table.{CheckReply, passed, refusedBy, checkReply}
 use Rattle.rules.specs.declared.table.Checked.{Checked}
 use Rattle.soundness.specs.declared.record.Record.{Record}
 use Rattle.soundness.specs.Soundness.{sound?}
+use Rattle.soundness.specs.Setup.{Setup}
 use Rattle.soundness.specs.Ready.{readyOf}
 
--- 7, "record not sound", after refusals 1 to 4.
+-- 7, "record not sound", after those.
 abbrev pub withSound : Bool → CheckReply → CheckReply
 withSound sound (passed rows need) = cond sound (passed rows need) (refusedBy (refused Refusal.Unsound))
 withSound sound (refusedBy fault) = refusedBy fault
 
-unfoldable pub fitOf : List ℕ → List ℕ → Record → CheckReply
-fitOf table store found = withSound (sound? table store found) (readyOf table (length store))
+unfoldable pub fitOf : Setup → List ℕ → Record → CheckReply
+fitOf setup store found = withSound (sound? (setup .table) store found) (readyOf setup (length store))
 
 -- What `fit` promises: its answer says this.
-abbrev pub Fits : (table store : List ℕ) → Record → Checked → Type 0
-Fits table store found answer = checkReply answer ≡ fitOf table store found
+abbrev pub Fits : Setup → (store : List ℕ) → Record → Checked → Type 0
+Fits setup store found answer = checkReply answer ≡ fitOf setup store found

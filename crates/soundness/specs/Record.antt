@@ -1,10 +1,10 @@
 -- The record, and the part of the store that belongs to each row (document 01, "Spans, store and record").
-use mathlib.Core.Bool.{Bool, cond}
+use mathlib.Core.Bool.{Bool}
 use mathlib.Core.List.{List}
 use Prim.Native.Nat.{ℕ}
-use lib.Dec.{eqb}
 use lib.ListN.{getD, take, drop, replicate}
 use Rattle.meaning.specs.Spans.{Span}
+use Rattle.row_list.specs.Truths.{isTrue}
 use Rattle.rules.specs.Limits.{rowLimit}
 use Rattle.rules.specs.Rows.{numbersAt}
 use Rattle.rules.specs.Stretches.{width, offset}
@@ -12,19 +12,9 @@ use Rattle.spans.specs.declared.stretch.Held.{Held}
 use Rattle.spans.specs.Layout.{spansHeld}
 use Rattle.soundness.specs.declared.record.Record.{Record}
 
--- A truth as a byte, 1 for true and 0 for false, and the truth that a byte tells.
-abbrev pub byteOf : Bool → ℕ
-byteOf truth = cond truth 1 0
-
-abbrev pub isTrue : ℕ → Bool
-isTrue byte = eqb byte 1
-
 -- "The record holds: whether an event was seen, .., each row's truth at it, and each row's span count." A heartbeat is not seen as an event.
 abbrev pub wasSeen : Record → Bool
 wasSeen found = isTrue (found .seen)
-
-abbrev pub truthAt : List ℕ → ℕ → Bool
-truthAt truths row = isTrue (getD truths row 0)
 
 -- "the record keeps both times" (document 02, E2): the clock, before which nothing is accepted any more and from which spans are held, and the time of
 -- the last true event, from which ages are counted.

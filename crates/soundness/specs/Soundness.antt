@@ -15,7 +15,8 @@ use Rattle.spans.specs.declared.stretch.Held.{Held}
 use Rattle.sound_spans.specs.StretchSound.{soundStretch?}
 use Rattle.soundness.specs.declared.record.Record.{Record}
 use Rattle.times.specs.Times.{timeLimit}
-use Rattle.soundness.specs.Record.{isTrue, wasSeen, clockOf, eventTime, heldAt, stretchAt}
+use Rattle.row_list.specs.Truths.{isTrue}
+use Rattle.soundness.specs.Record.{wasSeen, clockOf, eventTime, heldAt, stretchAt}
 
 -- Every row below n passes.
 unfoldable pub every : ℕ → (ℕ → Bool) → Bool

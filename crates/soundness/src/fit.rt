@@ -1,4 +1,4 @@
-// Refusals 1 to 4, then 7, with which every call begins.
+// Refusals 1 to 3, 10 and 4, then 7, with which every call begins.
 
 use crate::ready::ready;
 use crate::soundness::sound_record;
@@ -6,11 +6,13 @@ use refusals::refusal::Refusal;
 use rules::limits::ROW_LIMIT;
 use rules::table::Checked;
 ghost use Rattle.soundness.specs.Record.{recordOf};
+ghost use Rattle.soundness.specs.Setup.{setupOf};
 ghost use Rattle.soundness.specs.Fit.{Fits};
 
-// The rows and the need of a table, or the refusal of table, store or record. The record is lent in parts.
+// The rows and the need of a table, or the refusal of table, list, store or record. The record is lent in parts.
 pub fn fit(
     table: &[u32],
+    list: &[u32],
     store: &[u64],
     seen: u8,
     clock: u64,
@@ -19,10 +21,10 @@ pub fn fit(
     truths: &[u8; ROW_LIMIT],
     counts: &[u32; ROW_LIMIT],
 ) -> Checked
-    ensures { λ r. ⌜ Fits (now (table .entry)) (now (store .entry))
+    ensures { λ r. ⌜ Fits (setupOf (now (table .entry)) (now (list .entry))) (now (store .entry))
         (recordOf seen clock last count (now (truths .entry)) (now (counts .entry))) r ⌝ }
 {
-    let checked = ready(table, store.len());
+    let checked = ready(table, list, store.len());
     match checked {
         Checked::Refused(refusal) => Checked::Refused(refusal),
         Checked::Passed { rows, need } => {

@@ -14,7 +14,6 @@ use times::time::TIME_LIMIT;
 use times::time::later;
 use times::time::wide;
 ghost use mathlib.Core.Bool.{_&&_, _||_};
-ghost use mathlib.Core.Option.{none};
 ghost use mathlib.Core.Path.{_≡_};
 ghost use Prim.Native.Nat.{_≤_};
 ghost use lib.Dec.{eqb, leb};
@@ -25,7 +24,7 @@ ghost use Rattle.rules.specs.Stretches.{spansOf, width};
 ghost use Rattle.times.specs.Times.{timeLimit};
 ghost use Rattle.soundness.specs.Record.{heldOf, recordOf};
 ghost use Rattle.soundness.specs.Soundness.{every, truthByte?, soundEntry?, soundLimits?, soundRow?, zeroPast?, soundTimes?, sound?};
-ghost use Rattle.soundness.specs.Ready.{readyOf, refusalIn};
+ghost use Rattle.soundness.specs.Ready.{TableReady};
 
 // The row count, the times, each row of the table, and what stands past them.
 pub(crate) fn sound_record(
@@ -39,7 +38,7 @@ pub(crate) fn sound_record(
     truths: &[u8; ROW_LIMIT],
     counts: &[u32; ROW_LIMIT],
 ) -> bool
-    requires { ⌜ refusalIn (readyOf (now table) (length (now store))) ≡ none ⌝ }
+    requires { ⌜ TableReady (now table) (length (now store)) ⌝ }
     requires { ⌜ rows ≡ rowsOf (now table) ⌝ }
     ensures { λ r. ⌜ r ≡ sound? (now (table .entry)) (now (store .entry))
         (recordOf seen clock last count (now (truths .entry)) (now (counts .entry))) ⌝ }
@@ -85,7 +84,7 @@ fn sound_rows(
     truths: &[u8; ROW_LIMIT],
     counts: &[u32; ROW_LIMIT],
 ) -> bool
-    requires { ⌜ refusalIn (readyOf (now table) (length (now store))) ≡ none ⌝ }
+    requires { ⌜ TableReady (now table) (length (now store)) ⌝ }
     requires { ⌜ (rows ≡ rowsOf (now table)) × (last ≤ clock) × (clock ≤ timeLimit) ⌝ }
     ensures { λ r. ⌜ r ≡ every rows (soundRow? (now (table .entry)) (now (store .entry))
         (recordOf seen clock last rows (now (truths .entry)) (now (counts .entry)))) ⌝ }

@@ -11,12 +11,14 @@ use lib.ListN.{length, length-append}
 use Rattle.rules.specs.Limits.{rowLimit, rowNumbers}
 use Rattle.refusals.specs.Refusals.{Refused, refused}
 use Rattle.rules.specs.Stretches.{needOf}
-use Rattle.refusals.specs.declared.refusal.Refusal.the-variants.{Length}
-use Rattle.lines.specs.Digits.{byteAt, byteDigits}
+use Rattle.refusals.specs.declared.refusal.Refusal.the-variants.{Length, RowList}
+use Rattle.lines.specs.Digits.{byteAt}
 use Rattle.lines.specs.Line.{lineFeed}
-use Rattle.lines.specs.Read.{LineReply, atEnd, goodLine, badLine}
+use Rattle.lines.specs.Read.{LineReply, atEnd, goodLine, badLine, readLine}
 use Rattle.lines.specs.Frame.{readFrame}
-use Rattle.lines.specs.Rule.{readRule}
+use Rattle.lines.specs.Rule.{ruleWidths}
+use Rattle.lines.specs.ListLine.{listMarked, readList, listOf}
+use Rattle.row_list.specs.declared.list.RowList as list
 use Rattle.meaning.proofs.Truths.{by-test}
 use Rattle.lines.proofs.WriteLaws.{length-digits}
 use Rattle.soundness.specs.Record.{clockOf}
@@ -24,11 +26,11 @@ use Rattle.monitor.specs.Start.{startOf}
 use Rattle.monitor.specs.Step.{frameOf, Reply}
 use Rattle.monitor.specs.Step as step
 use Rattle.text.specs.declared.state.Part.{Part}
-use Rattle.text.specs.declared.state.Part.the-variants.{Rules, Frames, Over}
-use Rattle.text.specs.Replies.{needDigits, timeDigits, longestReply, replyLine, acceptedLine, refusalLine, refusedLine}
-use Rattle.text.specs.Transcript.{Running, frameJudged, replyOf, frameReply}
+use Rattle.text.specs.declared.state.Part.the-variants.{Rules, Listed, Frames, Over}
+use Rattle.text.specs.Replies.{needDigits, timeDigits, verdictDigits, longestReply, replyLine, movedLine, refusalLine, refusedLine}
+use Rattle.text.specs.Transcript.{Running, frameJudged, replyOf, frameReply, lastRow}
 use Rattle.text.specs.Held.{heldLine, holding}
-use Rattle.text.specs.Turn.{Desk, rowsRead, runningAt, startText, ruleTurn, beforeFrames, turnIn}
+use Rattle.text.specs.Turn.{Desk, rowsRead, setupWith, runningAt, startText, ruleTurn, listTurn, emptyTurn, beforeList, afterList, turnIn}
 use Rattle.text.specs.Feed.{Memory, byteLeaves, byteText, feed, pieceFed}
 use Rattle.text.proofs.WroteLaws.{length-reply}
 use Rattle.text.proofs.FeedLaws.{step-ready}
@@ -51,12 +53,21 @@ rule-short d atEnd = omega arith
 rule-short d (goodLine given) = omega arith
 rule-short d (badLine fault) = refusal-short (fault .number) (d .stage .rows)
 
-accepted-short : (time number : ℕ) → length (acceptedLine time number) ≤ longestReply
-accepted-short time number = reply-short timeDigits time byteDigits number (omega arith)
+list-short : (d : Desk) (said : LineReply) → length (listTurn said d .text) ≤ longestReply
+list-short d atEnd = refused-short (refused RowList)
+list-short d (goodLine given) = omega arith
+list-short d (badLine fault) = refused-short (refused RowList)
+
+empty-short : (list : list.RowList) (d : Desk) → length (emptyTurn list d .text) ≤ longestReply
+empty-short list d = start-short (needOf (rowsRead d)) (startOf (setupWith list d) (d .store) .refusal)
+
+moved-short : (time : ℕ) → length (movedLine time) ≤ longestReply
+unfolding movedLine
+moved-short time = simp (length-append, length-digits) (omega arith)
 
 answer-short : (time : ℕ) (reply : Reply) → length (replyOf time reply) ≤ longestReply
-answer-short time (step.verdict holds) = accepted-short time _
-answer-short time step.clockMoved = accepted-short time _
+answer-short time (step.verdict number) = reply-short timeDigits time verdictDigits number (omega arith)
+answer-short time step.clockMoved = moved-short time
 answer-short time (step.refusal fault) = refused-short fault
 
 frame-short : (s : Running) (said : LineReply) → length (frameReply s said) ≤ longestReply
@@ -65,12 +76,17 @@ frame-short s (goodLine given) = answer-short (clockOf (frameJudged s (frameOf g
 frame-short s (badLine fault) = refused-short fault
 
 turn-short-in : (part : Part) (d : Desk) (line : List ℕ) → length (turnIn part line d .text) ≤ longestReply
-unfolding beforeFrames
+unfolding beforeList afterList
 turn-short-in Rules d line =
-    by-test (eqb (byteAt line 0) lineFeed) (λ empty. rw empty (start-short (needOf (rowsRead d)) (startOf (rowsRead d) (d .store) .refusal)))
+    by-test (eqb (byteAt line 0) lineFeed) (λ empty. rw empty (empty-short (listOf (lastRow (d .stage .rows))) d))
     (λ other. rw other
+    (by-test (listMarked line 0) (λ marked. rw marked (list-short d (readList line 0 .said)))
+    (λ rule. rw rule
     (by-test (leb rowLimit (d .stage .rows)) (λ all. rw all (refused-short (refused Length)))
-    (λ fewer. rw fewer (rule-short d (readRule line 0 .said)))))
+    (λ fewer. rw fewer (rule-short d (readLine ruleWidths line 0 .said)))))))
+turn-short-in Listed d line =
+    by-test (eqb (byteAt line 0) lineFeed) (λ empty. rw empty (empty-short (d .stage .list) d))
+    (λ other. rw other (refused-short (refused RowList)))
 turn-short-in Frames d line = frame-short (runningAt d) (readFrame line 0 .said)
 turn-short-in Over d line = omega arith
 

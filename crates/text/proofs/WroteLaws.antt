@@ -6,10 +6,10 @@ use Prim.Native.Nat.{ℕ, _+_, _≤_, _<_}
 use native.Mathlib.Omega.{arith}
 use borrow.Author.Tests.{le-leb}
 use lib.Dec.{leb}
-use lib.ListN.{length, take, set, length-append}
+use lib.ListN.{length, take, set, length-append, replicate-append-replicate}
 use Rattle.lines.specs.Digits.{digits, overwritten, DigitsWritten}
 use Rattle.lines.proofs.WriteLaws.{length-digits}
-use Rattle.text.specs.Replies.{Wrote, replyLine}
+use Rattle.text.specs.Replies.{Wrote, replyLine, hyphen, hyphens}
 use Rattle.lines.proofs.OverLaws.{take-over, over-over, over-none, over-one, over-fits}
 
 pub wrote-more : (out : List ℕ) (place : ℕ) (first : List ℕ) (between : ℕ) (middle : List ℕ) (second : List ℕ) (next : ℕ) (after : List ℕ)
@@ -34,6 +34,15 @@ wrote-digits out place n value done after room w =
 
 pub wrote-byte : (out : List ℕ) (place byte : ℕ) → place < length out → Wrote out place (byte ∷ []) (place + 1) (set out place byte)
 wrote-byte out place byte within = record { place-after = refl; bytes = over-one out place byte within }
+
+-- One hyphen more.
+pub wrote-hyphen : (before : List ℕ) (place done : ℕ) (out : List ℕ) → place ≤ length before → place + done < length out
+    → Wrote before place (hyphens done) (place + done) out
+    → Wrote before place (hyphens (done + 1)) (place + (done + 1)) (set out (place + done) hyphen)
+wrote-hyphen before place done out within room w =
+    let on : place + (done + 1) ≡ place + done + 1 = omega arith in
+    rw (on, ← replicate-append-replicate done 1 hyphen)
+    (wrote-more before place _ (place + done) out _ _ _ within w (wrote-byte out (place + done) hyphen room))
 
 pub length-reply : (n first m second : ℕ) → length (replyLine n first m second) ≡ n + m + 1
 unfolding replyLine

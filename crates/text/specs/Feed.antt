@@ -7,12 +7,13 @@ use lib.Dec.{leb, ltb, eqb}
 use lib.ListN.{length, replicate}
 use Rattle.rules.specs.Limits.{rowLimit, rowNumbers}
 use Rattle.refusals.specs.Refusals.{refused, numberOf}
-use Rattle.refusals.specs.declared.refusal.Refusal.the-variants.{Length, BadLine}
+use Rattle.refusals.specs.declared.refusal.Refusal.the-variants.{Length, BadLine, RowList}
 use Rattle.lines.specs.Line.{lineFeed}
+use Rattle.lines.specs.ListLine.{listMarked, listOf}
 use Rattle.soundness.specs.Record.{nothingSeen}
 use Rattle.text.specs.declared.state.Held.{Held}
 use Rattle.text.specs.declared.state.Part.{Part}
-use Rattle.text.specs.declared.state.Part.the-variants.{Rules, Frames, Over}
+use Rattle.text.specs.declared.state.Part.the-variants.{Rules, Listed, Frames, Over}
 use Rattle.text.specs.declared.state.State.{State}
 use Rattle.text.specs.declared.feed.Fed.{Fed}
 use Rattle.text.specs.declared.feed.Finished.{Finished}
@@ -76,20 +77,22 @@ unfoldable pub fresh : State
 fresh =
     record {
       held = record { bytes = replicate lineLimit 0; count = 0 };
-      stage = staged Rules 0 (nothingSeen 0);
+      stage = staged Rules 0 (listOf []) (nothingSeen 0);
     }
 
 -- "a 65th line before the empty one EE0100, whatever it holds; a line cut off by the text's end is a bad line; text that ends at a line's start
--- before the empty line EE0800".
-abbrev pub endText : Part → ℕ → ℕ → List ℕ
-endText Rules rows count =
-    cond (eqb count 0) (refusedLine (refused BadLine))
-    (cond (leb rowLimit rows) (refusedLine (refused Length)) (refusalLine (numberOf BadLine) rows))
-endText Frames rows count = cond (eqb count 0) [] (refusedLine (refused BadLine))
-endText Over rows count = []
+-- before the empty line EE0800". A list line that is cut off, or any line begun after one, is EE0A00.
+abbrev pub endText : Part → ℕ → List ℕ → List ℕ
+endText Rules rows line =
+    cond (eqb (length line) 0) (refusedLine (refused BadLine))
+    (cond (listMarked line 0) (refusedLine (refused RowList))
+    (cond (leb rowLimit rows) (refusedLine (refused Length)) (refusalLine (numberOf BadLine) rows)))
+endText Listed rows line = cond (eqb (length line) 0) (refusedLine (refused BadLine)) (refusedLine (refused RowList))
+endText Frames rows line = cond (eqb (length line) 0) [] (refusedLine (refused BadLine))
+endText Over rows line = []
 
 unfoldable pub textEnd : State → List ℕ
-textEnd state = endText (state .stage .part) (state .stage .rows) (state .held .count)
+textEnd state = endText (state .stage .part) (state .stage .rows) (heldLine (state .held))
 
 -- What a step brings, from a state and what is lent.
 abbrev pub stepFed : State → (table store piece out : List ℕ) → Feeding

@@ -5,13 +5,13 @@ use Prim.Native.Nat.{ℕ, _+_, min}
 use lib.Dec.{ltb}
 use lib.ListN.{take, set}
 use Rattle.lines.specs.Line.{digitsOf}
-use Rattle.lines.specs.Read.{bytesOf}
-use Rattle.lines.specs.Rule.{ruleWidths}
+use Rattle.lines.specs.ListLine.{markBytes}
+use Rattle.row_list.specs.RowList.{listLimit}
 use Rattle.text.specs.declared.state.Held.{Held}
 
--- No good line is longer than a rule line with its line feed.
+-- No good line is longer than a list line of the most row numbers, with its line feed.
 abbrev pub lineLimit : ℕ
-lineLimit = digitsOf (bytesOf ruleWidths) + 1
+lineLimit = digitsOf (markBytes + listLimit) + 1
 
 -- The line as far as it is held.
 abbrev pub heldLine : Held → List ℕ

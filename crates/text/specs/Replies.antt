@@ -1,13 +1,11 @@
--- The lines that the program writes (document 01, "The program's text": "Output lines, each ended by a line feed"; document 02, E2).
-use mathlib.Core.Bool.{Bool}
+-- The lines that the program writes (document 01, "The program's text": "Output lines, each ended by a line feed"; document 02, E2 and E4).
 use mathlib.Core.List.{List, [], _∷_, _++_}
 use mathlib.Core.Path.{_≡_}
 use Prim.Native.Nat.{ℕ, _+_}
-use lib.ListN.{length}
+use lib.ListN.{length, replicate}
 use Rattle.lines.specs.Digits.{byteDigits, digits, overwritten}
 use Rattle.lines.specs.Line.{lineFeed}
 use Rattle.refusals.specs.Refusals.{Refused, rowIn}
-use Rattle.soundness.specs.Record.{byteOf}
 
 -- A line of two numbers, each in so many digits.
 unfoldable pub replyLine : (n first m second : ℕ) → List ℕ
@@ -20,21 +18,24 @@ needDigits = 8
 abbrev pub needLine : ℕ → List ℕ
 needLine need = replyLine 0 0 needDigits need
 
--- "per frame 12 digits of time and 00 or 01", and for a heartbeat "the time and 02".
+-- "per frame 12 digits of time", and: "Verdicts are written as four digits, a heartbeat as four hyphens".
 abbrev pub timeDigits : ℕ
 timeDigits = 12
 
-abbrev pub acceptedLine : ℕ → ℕ → List ℕ
-acceptedLine time number = replyLine timeDigits time byteDigits number
+abbrev pub verdictDigits : ℕ
+verdictDigits = 4
 
-abbrev pub verdictLine : ℕ → Bool → List ℕ
-verdictLine time holds = acceptedLine time (byteOf holds)
+abbrev pub verdictLine : ℕ → ℕ → List ℕ
+verdictLine time number = replyLine timeDigits time verdictDigits number
 
-abbrev pub movedNumber : ℕ
-movedNumber = 2
+abbrev pub hyphen : ℕ
+hyphen = 45
 
-abbrev pub movedLine : ℕ → List ℕ
-movedLine time = acceptedLine time movedNumber
+abbrev pub hyphens : ℕ → List ℕ
+hyphens n = replicate n hyphen
+
+unfoldable pub movedLine : ℕ → List ℕ
+movedLine time = digits timeDigits time ++ (hyphens verdictDigits ++ (lineFeed ∷ []))
 
 -- "per refusal EE, number 2 digits, row or 00".
 abbrev pub refusalMark : ℕ
@@ -49,7 +50,7 @@ refusedLine fault = refusalLine (fault .number) (rowIn fault)
 
 -- No line is longer than an accepted frame's.
 abbrev pub longestReply : ℕ
-longestReply = timeDigits + byteDigits + 1
+longestReply = timeDigits + verdictDigits + 1
 
 -- A line is written at a place, over what is there; the next place is the one after it.
 pub record Wrote (out : List ℕ) (place : ℕ) (line : List ℕ) (next : ℕ) (after : List ℕ) : Type 0 where

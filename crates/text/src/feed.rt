@@ -24,6 +24,7 @@ use crate::state::held_length;
 use crate::state::hold;
 use crate::turn::Told;
 use crate::turn::turn;
+use lines::list::is_list_line;
 use refusals::refusal::Refusal;
 use rules::limits::ROW_LIMIT;
 use rules::limits::ROW_NUMBERS;
@@ -70,9 +71,12 @@ pub fn finish(state: State, out: &mut [u8]) -> Finished
     }
     let held = state.held;
     let stage = state.stage;
+    let bytes = held.bytes;
+    let count = held_length(held.count);
+    let all = &bytes[..];
     Finished {
         done: true,
-        wrote: end_text(stage, held.count, out),
+        wrote: end_text(stage, &all[0..count], out),
     }
 }
 
@@ -143,25 +147,29 @@ fn end_line(
 }
 
 // What the text's end brings: a line that it cuts off is a bad line, and a text that ends before the empty line is refused.
-fn end_text(stage: Stage, count: usize, out: &mut [u8]) -> usize
+fn end_text(stage: Stage, line: &[u8], out: &mut [u8]) -> usize
     requires { ⌜ longestReply ≤ length (now out) ⌝ }
-    ensures { λ r. ⌜ Wrote (now (out .entry)) 0 (endText (stage .part) (stage .rows) count) r (now (out .exit)) ⌝ }
+    ensures { λ r. ⌜ Wrote (now (out .entry)) 0 (endText (stage .part) (stage .rows) (now (line .entry))) r (now (out .exit)) ⌝ }
 {
     let part = stage.part;
     match part {
-        Part::Rules => end_of_rules(stage.rows, count, out),
-        Part::Frames => end_of_frames(count, out),
+        Part::Rules => end_of_rules(stage.rows, line, out),
+        Part::Listed => end_after_list(line, out),
+        Part::Frames => end_of_frames(line, out),
         Part::Over => 0,
     }
 }
 
-// Before the empty line: no line is begun, the line is the 65th, or it is a bad rule line.
-fn end_of_rules(rows: usize, count: usize, out: &mut [u8]) -> usize
+// Among the rules: no line is begun, the line is a bad list line, the 65th, or a bad rule line.
+fn end_of_rules(rows: usize, line: &[u8], out: &mut [u8]) -> usize
     requires { ⌜ longestReply ≤ length (now out) ⌝ }
-    ensures { λ r. ⌜ Wrote (now (out .entry)) 0 (endText Part.Rules rows count) r (now (out .exit)) ⌝ }
+    ensures { λ r. ⌜ Wrote (now (out .entry)) 0 (endText Part.Rules rows (now (line .entry))) r (now (out .exit)) ⌝ }
 {
-    if count == 0 {
+    if line.len() == 0 {
         return write_refused(out, 0, Refusal::BadLine);
+    }
+    if is_list_line(line, 0) {
+        return write_refused(out, 0, Refusal::RowList);
     }
     if ROW_LIMIT <= rows {
         return write_refused(out, 0, Refusal::Length);
@@ -174,12 +182,23 @@ fn end_of_rules(rows: usize, count: usize, out: &mut [u8]) -> usize
     )
 }
 
-// Among the frames: a line that is begun is a bad one.
-fn end_of_frames(count: usize, out: &mut [u8]) -> usize
+// After the list line: no line is begun, or it is not the empty one.
+fn end_after_list(line: &[u8], out: &mut [u8]) -> usize
     requires { ⌜ longestReply ≤ length (now out) ⌝ }
-    ensures { λ r. ⌜ Wrote (now (out .entry)) 0 (endText Part.Frames 0 count) r (now (out .exit)) ⌝ }
+    ensures { λ r. ⌜ Wrote (now (out .entry)) 0 (endText Part.Listed 0 (now (line .entry))) r (now (out .exit)) ⌝ }
 {
-    if count == 0 {
+    if line.len() == 0 {
+        return write_refused(out, 0, Refusal::BadLine);
+    }
+    write_refused(out, 0, Refusal::RowList)
+}
+
+// Among the frames: a line that is begun is a bad one.
+fn end_of_frames(line: &[u8], out: &mut [u8]) -> usize
+    requires { ⌜ longestReply ≤ length (now out) ⌝ }
+    ensures { λ r. ⌜ Wrote (now (out .entry)) 0 (endText Part.Frames 0 (now (line .entry))) r (now (out .exit)) ⌝ }
+{
+    if line.len() == 0 {
         return 0;
     }
     write_refused(out, 0, Refusal::BadLine)

@@ -5,11 +5,13 @@ ghost use mathlib.Core.Path.{_≡_};
 ghost use Prim.Native.Nat.{min};
 ghost use Rattle.text.specs.Held.{lineLimit, holding, emptied};
 ghost use Rattle.text.specs.Feed.{fresh};
-use lines::rule::LINE_BYTES;
+use lines::list::LINE_BYTES;
+use row_list::list::LIST_LIMIT;
+use row_list::list::RowList;
 use soundness::record::Record;
 use soundness::record::nothing_seen;
 
-// No good line is longer than a rule line with its line feed.
+// No good line is longer than a list line of the most row numbers, with its line feed.
 pub const LINE_LIMIT: usize = LINE_BYTES;
 
 // The first bytes of an unfinished line. Of a line that is longer than any good one no more is held.
@@ -19,8 +21,10 @@ pub struct Held {
 }
 
 pub enum Part {
-    // Rule lines, up to the empty line.
+    // Rule lines, up to the list line or the empty line.
     Rules,
+    // After the list line only the empty line may stand.
+    Listed,
     // The frames after it.
     Frames,
     // After a refusal up to or at the empty line nothing more is written.
@@ -31,6 +35,8 @@ pub struct Stage {
     pub part: Part,
     // Rule lines read: so many rows stand in the table that is lent.
     pub rows: usize,
+    // The rows whose formulas are judged: those of the list line, or at the empty line the last row; none before.
+    pub list: RowList,
     pub found: Record,
 }
 
@@ -51,6 +57,10 @@ pub fn fresh() -> State
         stage: Stage {
             part: Part::Rules,
             rows: 0,
+            list: RowList {
+                rows: [0; LIST_LIMIT],
+                count: 0,
+            },
             found: nothing_seen(0),
         },
     }

@@ -1,5 +1,5 @@
-// What a whole line brings, by the part of the text that it stands in (document 01, "The program's text"). The line, the table, the store and
-// the output are lent; whoever calls has seen that table and output have room.
+// What a whole line brings, by the part of the text that it stands in (document 01, "The program's text"; document 02, E4). The line, the table, the
+// store and the output are lent; whoever calls has seen that table and output have room.
 
 ghost use mathlib.Core.List.{List, [], _∷_};
 ghost use mathlib.Core.Path.{_≡_};
@@ -12,10 +12,13 @@ ghost use Rattle.lines.specs.Line.{lineFeed};
 ghost use Rattle.lines.specs.Read.{goodLine};
 ghost use Rattle.lines.specs.Frame.{readFrame};
 ghost use Rattle.lines.specs.Rule.{readRule};
-ghost use Rattle.text.specs.Turn.{Room, staged, beforeFrames, emptyTurn, ruleTurn, frameTurn, lineTurn, Turned};
+ghost use Rattle.lines.specs.ListLine.{readList, listOf};
+ghost use Rattle.refusals.specs.Refusals.{refused};
+ghost use Rattle.text.specs.Replies.{longestReply, refusedLine};
+ghost use Rattle.text.specs.Transcript.{lastRow};
+ghost use Rattle.text.specs.Turn.{Room, staged, refusing, beforeList, afterList, emptyTurn, ruleTurn, listTurn, frameTurn, lineTurn, Turned};
 ghost use Rattle.text.specs.declared.state.Part.the-variants as Part;
-use crate::replies::MOVED_NUMBER;
-use crate::replies::write_accepted;
+use crate::replies::write_answer;
 use crate::replies::write_need;
 use crate::replies::write_refusal;
 use crate::replies::write_refused;
@@ -23,12 +26,17 @@ use crate::state::Part;
 use crate::state::Stage;
 use lines::frame::FrameFound;
 use lines::frame::read_frame;
+use lines::list::ListFound;
+use lines::list::is_list_line;
+use lines::list::read_list;
 use lines::rule::RuleFound;
 use lines::rule::read_rule;
-use monitor::answer::Answer;
 use monitor::answer::StartAnswer;
 use monitor::start::start;
 use refusals::refusal::Refusal;
+use row_list::list::LIST_LIMIT;
+use row_list::list::RowList;
+use row_list::list::within_limit;
 use rules::limits::ROW_LIMIT;
 use rules::limits::ROW_NUMBERS;
 
@@ -54,14 +62,15 @@ pub(crate) fn turn(
 {
     let part = stage.part;
     match part {
-        Part::Rules => before_frames(stage, table, store, line, out, place),
+        Part::Rules => before_list(stage, table, store, line, out, place),
+        Part::Listed => after_list(stage, table, store, line, out, place),
         Part::Frames => frame_line(stage, table, store, line, out, place),
         Part::Over => Told { stage, place },
     }
 }
 
-// A line before the frames: the empty line, a rule line, or a line after all the rows that a table may have.
-fn before_frames(
+// A line among the rules: the empty line, the list line, a rule line, or a line after all the rows that a table may have.
+fn before_list(
     stage: Stage,
     table: &mut [u32],
     store: &mut [u64],
@@ -70,21 +79,42 @@ fn before_frames(
     place: usize,
 ) -> Told
     requires { ⌜ Room stage (now table) (now out) place ⌝ }
-    ensures { λ r. ⌜ Turned (beforeFrames (now (line .entry)))
+    ensures { λ r. ⌜ Turned (beforeList (now (line .entry)))
         stage (now (table .entry)) (now (store .entry)) (now (out .entry)) place
         r (now (table .exit)) (now (store .exit)) (now (out .exit)) ⌝ }
 {
-    if is_empty(line) {
-        return empty_line(stage, table, store, out, place);
-    }
     let rows = stage.rows;
+    if is_empty(line) {
+        return empty_line(stage, last_row(rows), table, store, out, place);
+    }
+    if is_list_line(line, 0) {
+        return list_line(stage, line, out, place);
+    }
     if ROW_LIMIT <= rows {
-        return Told {
-            stage: ended(stage),
-            place: write_refused(out, place, Refusal::Length),
-        };
+        return refuse(stage, Refusal::Length, out, place);
     }
     rule_line(stage, table, line, out, place)
+}
+
+// A line after the list line: the empty line, or a refusal.
+fn after_list(
+    stage: Stage,
+    table: &[u32],
+    store: &mut [u64],
+    line: &[u8],
+    out: &mut [u8],
+    place: usize,
+) -> Told
+    requires { ⌜ Room stage (now table) (now out) place ⌝ }
+    ensures { λ r. ⌜ Turned (afterList (now (line .entry)))
+        stage (now (table .entry)) (now (store .entry)) (now (out .entry)) place
+        r (now (table .entry)) (now (store .exit)) (now (out .exit)) ⌝ }
+{
+    if is_empty(line) {
+        let list = stage.list;
+        return empty_line(stage, list, table, store, out, place);
+    }
+    refuse(stage, Refusal::RowList, out, place)
 }
 
 // Whether a line is the empty one.
@@ -97,15 +127,75 @@ fn is_empty(line: &[u8]) -> bool
     line[0] == b'\n'
 }
 
+// "no list means the last row alone"; a table of no rows is refused before its list.
+fn last_row(rows: usize) -> RowList
+    requires { ⌜ rows ≤ rowLimit ⌝ }
+    ensures { λ r. ⌜ r ≡ listOf (lastRow rows) ⌝ }
+{
+    let mut list = [0; LIST_LIMIT];
+    if rows == 0 {
+        return RowList {
+            rows: list,
+            count: 1,
+        };
+    }
+    list[0] = (rows - 1) as u32;
+    RowList {
+        rows: list,
+        count: 1,
+    }
+}
+
+// A refusal up to or at the empty line.
+fn refuse(stage: Stage, fault: Refusal, out: &mut [u8], place: usize) -> Told
+    requires { ⌜ place + longestReply ≤ length (now out) ⌝ }
+    ensures { λ r. ⌜ ((table store : List ℕ) → Turned (λ d. refusing d (refusedLine (refused fault)))
+        stage table store (now (out .entry)) place
+        r table store (now (out .exit))) ⌝ }
+{
+    Told {
+        stage: ended(stage),
+        place: write_refused(out, place, fault),
+    }
+}
+
 // Nothing more is written.
 fn ended(stage: Stage) -> Stage
-    ensures { λ r. ⌜ r ≡ staged Part.Over (stage .rows) (stage .found) ⌝ }
+    ensures { λ r. ⌜ r ≡ staged Part.Over (stage .rows) (stage .list) (stage .found) ⌝ }
 {
+    let list = stage.list;
     let found = stage.found;
     Stage {
         part: Part::Over,
         rows: stage.rows,
+        list,
         found,
+    }
+}
+
+// A list line is read and kept; "A list line of bad form or sum .. is EE0A00 at once".
+fn list_line(stage: Stage, line: &[u8], out: &mut [u8], place: usize) -> Told
+    requires { ⌜ place + longestReply ≤ length (now out) ⌝ }
+    ensures { λ r. ⌜ ((table store : List ℕ) → Turned (listTurn (readList (now (line .entry)) 0 .said))
+        stage table store (now (out .entry)) place
+        r table store (now (out .exit))) ⌝ }
+{
+    let read = read_list(line, 0);
+    let list = read.list;
+    let form = read.found;
+    let found = stage.found;
+    match form {
+        ListFound::Rows => Told {
+            stage: Stage {
+                part: Part::Listed,
+                rows: stage.rows,
+                list,
+                found,
+            },
+            place,
+        },
+        ListFound::End => refuse(stage, Refusal::RowList, out, place),
+        ListFound::Refused(_) => refuse(stage, Refusal::RowList, out, place),
     }
 }
 
@@ -123,12 +213,14 @@ fn rule_line(stage: Stage, table: &mut [u32], line: &[u8], out: &mut [u8], place
     match rule {
         RuleFound::End => Told { stage, place },
         RuleFound::Rule { kind, x, y, a, b } => {
+            let list = stage.list;
             let found = stage.found;
             add_row(table, rows * ROW_NUMBERS, kind, x, y, a, b);
             Told {
                 stage: Stage {
                     part: Part::Rules,
                     rows: rows + 1,
+                    list,
                     found,
                 },
                 place,
@@ -158,24 +250,31 @@ fn add_row(table: &mut [u32], place: usize, kind: u32, x: u32, y: u32, a: u32, b
     table[place + 4] = b;
 }
 
-// The empty line: the monitor starts, which checks the table, and answers the need.
-fn empty_line(stage: Stage, table: &[u32], store: &mut [u64], out: &mut [u8], place: usize) -> Told
+// The empty line: the monitor starts, which checks the table and the list, and answers the need.
+fn empty_line(
+    stage: Stage,
+    list: RowList,
+    table: &[u32],
+    store: &mut [u64],
+    out: &mut [u8],
+    place: usize,
+) -> Told
     requires { ⌜ Room stage (now table) (now out) place ⌝ }
-    ensures { λ r. ⌜ Turned emptyTurn
+    ensures { λ r. ⌜ Turned (emptyTurn list)
         stage (now (table .entry)) (now (store .entry)) (now (out .entry)) place
         r (now (table .entry)) (now (store .exit)) (now (out .exit)) ⌝ }
 {
-    let rows = stage.rows;
-    let end = rows * ROW_NUMBERS;
-    let read = &table[0..end];
-    let started = start(read, store);
+    let end = stage.rows * ROW_NUMBERS;
+    let all = &list.rows[..];
+    let started = start(&table[0..end], &all[0..within_limit(list.count)], store);
     let answer = started.answer;
     let found = started.record;
     match answer {
         StartAnswer::Good { need } => Told {
             stage: Stage {
                 part: Part::Frames,
-                rows,
+                rows: stage.rows,
+                list,
                 found,
             },
             place: write_need(out, place, need),
@@ -183,7 +282,8 @@ fn empty_line(stage: Stage, table: &[u32], store: &mut [u64], out: &mut [u8], pl
         StartAnswer::Refused(fault) => Told {
             stage: Stage {
                 part: Part::Over,
-                rows,
+                rows: stage.rows,
+                list,
                 found,
             },
             place: write_refused(out, place, fault),
@@ -220,7 +320,7 @@ fn frame_line(
     }
 }
 
-// The monitor judges the frame: a verdict or a heartbeat's number with the frame's time, or a refusal.
+// The monitor judges the frame; the time that is written is the clock after it.
 fn judge(
     stage: Stage,
     table: &[u32],
@@ -237,27 +337,20 @@ fn judge(
 {
     let rows = stage.rows;
     let end = rows * ROW_NUMBERS;
+    let list = stage.list;
+    let count = within_limit(list.count);
+    let all = &list.rows[..];
     let found = stage.found;
-    let judged = monitor::step::frame(&table[0..end], store, found, counter, mask);
+    let judged = monitor::step::frame(&table[0..end], &all[0..count], store, found, counter, mask);
     let answer = judged.answer;
     let left = judged.record;
-    let stage = Stage {
-        part: Part::Frames,
-        rows,
-        found: left,
-    };
-    match answer {
-        Answer::Verdict(holds) => Told {
-            stage,
-            place: write_accepted(out, place, left.clock, holds as u64),
+    Told {
+        stage: Stage {
+            part: Part::Frames,
+            rows,
+            list,
+            found: left,
         },
-        Answer::ClockMoved => Told {
-            stage,
-            place: write_accepted(out, place, left.clock, MOVED_NUMBER),
-        },
-        Answer::Refused(fault) => Told {
-            stage,
-            place: write_refused(out, place, fault),
-        },
+        place: write_answer(out, place, left.clock, answer),
     }
 }

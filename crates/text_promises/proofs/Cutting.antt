@@ -2,27 +2,27 @@
 use mathlib.Core.Bool.{false, cond}
 use mathlib.Core.List.{List, [], _∷_, _++_, append-assoc, append-nil}
 use mathlib.Core.Path.{_≡_, refl, sym, ap, _∙_}
-use Prim.Native.Nat.{ℕ, zero, suc, _-_, _*_, _≤_, _<_, min}
+use Prim.Native.Nat.{ℕ, zero, suc, _-_, _*_, _≤_, _<_}
 use native.Mathlib.Omega.{arith}
 use borrow.Author.Tests.{eqb-false, ne-eqb, le-ltb}
 use lib.Dec.{ltb, eqb, lit<}
-use lib.ListN.{length, take}
+use lib.ListN.{length, take, length-take}
 use lib.Seq.{getD-take, take-length}
 use native.Mathlib.Numerals.{one-add}
 use Rattle.rules.specs.Limits.{rowLimit, rowNumbers}
 use Rattle.lines.specs.Digits.{byteAt}
 use Rattle.lines.specs.Line.{lineFeed}
 use Rattle.lines.specs.Frame.{frameWidths}
-use Rattle.lines.specs.Rule.{ruleWidths}
 use Rattle.meaning.proofs.Truths.{by-test}
-use Rattle.lines.proofs.AgreeLaws.{said-held, said-cut}
+use Rattle.lines.specs.ListLine.{listMarked}
+use Rattle.lines.proofs.AgreeLaws.{marked-held, said-held, rule-held, list-held, said-cut, rule-cut, list-cut}
 use Rattle.text.specs.declared.state.Part.{Part}
-use Rattle.text.specs.declared.state.Part.the-variants.{Rules, Frames, Over}
+use Rattle.text.specs.declared.state.Part.the-variants.{Rules, Listed, Frames, Over}
 use Rattle.lines.specs.Lines.{linesGoingOn}
 use Rattle.text.specs.Replies.{longestReply}
 use Rattle.text.specs.Transcript.{emptyStore, framesFrom, rulesFrom, transcript}
 use Rattle.text.specs.Held.{lineLimit, heldLine, holding}
-use Rattle.text.specs.Turn.{Desk, beforeFrames, turnIn, lineTurn}
+use Rattle.text.specs.Turn.{Desk, beforeList, afterList, turnIn, lineTurn}
 use Rattle.text.specs.Feed.{Memory, byteLeaves, byteText, Feeding, feed, memoryOf, stateIn, fresh, endText, textEnd}
 use Rattle.text.specs.Course.{Lent, Course, course, joined}
 use Rattle.text_promises.specs.Cutting.{EveryCutting, Roomy, EveryByteTaken, SomeByteTaken}
@@ -44,8 +44,15 @@ record Stands (m : Memory) (line : List ℕ) : Type 0 where
 
 -- A line as far as it is held brings what the line brings.
 turn-held-in : (part : Part) (d : Desk) (line : List ℕ) → turnIn part (take lineLimit line) d ≡ turnIn part line d
-unfolding beforeFrames
-turn-held-in Rules d line = rw (getD-take lineLimit line 0 0 (lit< tt), said-held ruleWidths lineLimit line (omega arith))
+unfolding beforeList afterList
+turn-held-in Rules d line =
+    rw (
+      getD-take lineLimit line 0 0 (lit< tt),
+      list-held lineLimit line (omega arith),
+      rule-held lineLimit line (omega arith),
+      marked-held lineLimit line (omega arith),
+    )
+turn-held-in Listed d line = rw (getD-take lineLimit line 0 0 (lit< tt))
 turn-held-in Frames d line = rw (said-held frameWidths lineLimit line (omega arith))
 turn-held-in Over d line = refl
 
@@ -146,30 +153,41 @@ course-share m line (lent ∷ more) stands =
     rw (step-ready m (lent .room) (lent .piece) (stands .desk .rows) (stands .desk .room))
     (share-more m line _ _ (feeding .left) _ _ _ fed (course-share (feeding .left) _ more (fed .stands)))
 
--- The text's end.
-end-owed-in : (part : Part) (d : Desk) (line : List ℕ) (count : ℕ)
+-- The text's end. Of a line that is begun something is held.
+some-held : (byte : ℕ) (line : List ℕ) → eqb (length (take lineLimit (byte ∷ line))) 0 ≡ false
+some-held byte line = ne-eqb (length (take lineLimit (byte ∷ line))) 0 (λ none. omega (arith, length-take lineLimit (byte ∷ line)))
+
+end-owed-in : (part : Part) (d : Desk) (line : List ℕ)
     → Right d
-    → count ≡ min (length line) lineLimit
     → ((i : ℕ) → byteAt line i ≡ lineFeed → ⊥)
-    → owedIn part d (linesGoingOn line []) ≡ endText part (d .stage .rows) count
+    → owedIn part d (linesGoingOn line []) ≡ endText part (d .stage .rows) (take lineLimit line)
 unfolding linesGoingOn rulesFrom framesFrom
-end-owed-in Rules d [] count right is free = rw is
-end-owed-in Rules d (byte ∷ line) count right is free =
-    let held : eqb count 0 ≡ false = ne-eqb count 0 (λ nothing. omega arith) in
+end-owed-in Rules d [] right free = refl
+end-owed-in Rules d (byte ∷ line) right free =
     let other : eqb byte lineFeed ≡ false = ne-eqb byte lineFeed (free 0) in
     let bytes : 0 < length (byte ∷ line) = omega arith in
-    rw (other, held, rows-read d right, said-cut ruleWidths (byte ∷ line) bytes free)
-end-owed-in Frames d [] count right is free = rw is
-end-owed-in Frames d (byte ∷ line) count right is free =
-    let held : eqb count 0 ≡ false = ne-eqb count 0 (λ nothing. omega arith) in
+    rw (
+      other,
+      some-held byte line,
+      rows-read d right,
+      list-cut (byte ∷ line) bytes free,
+      rule-cut (byte ∷ line) bytes free,
+      marked-held lineLimit (byte ∷ line) (omega arith),
+    )
+    (by-test (listMarked (byte ∷ line) 0) (λ marked. rw marked) (λ rule. rw rule))
+end-owed-in Listed d [] right free = refl
+end-owed-in Listed d (byte ∷ line) right free = rw (ne-eqb byte lineFeed (free 0), some-held byte line)
+end-owed-in Frames d [] right free = refl
+end-owed-in Frames d (byte ∷ line) right free =
     let bytes : 0 < length (byte ∷ line) = omega arith in
-    rw (held, said-cut frameWidths (byte ∷ line) bytes free) (append-nil _)
-end-owed-in Over d [] count right is free = refl
-end-owed-in Over d (byte ∷ line) count right is free = refl
+    rw (some-held byte line, said-cut frameWidths (byte ∷ line) bytes free) (append-nil _)
+end-owed-in Over d [] right free = refl
+end-owed-in Over d (byte ∷ line) right free = refl
 
 end-owed : (m : Memory) (line : List ℕ) → Stands m line → toCome m line [] ≡ textEnd (stateIn m)
 unfolding textEnd
-end-owed m line stands = end-owed-in (m .desk .stage .part) (m .desk) line (m .held .count) (stands .desk) (stands .held .count) (stands .free)
+end-owed m line stands =
+    rw (holds-line (m .held) line (stands .held)) (end-owed-in (m .desk .stage .part) (m .desk) line (stands .desk) (stands .free))
 
 fresh-stands : (table : List ℕ) → rowLimit * rowNumbers ≤ length table → Stands (memoryOf fresh table emptyStore) []
 unfolding fresh
@@ -177,7 +195,7 @@ fresh-stands table room =
     record {
       held = record { size = refl; count = refl; bytes = refl };
       free = λ i is. let z : _≡_ {A = ℕ} 0 lineFeed = is in omega arith;
-      desk = record { rows = omega arith; room = room; store = λ is. refl };
+      desk = record { rows = omega arith; room = room; store = λ waits. refl };
     }
 
 fresh-owed : (table text : List ℕ) → toCome (memoryOf fresh table emptyStore) [] text ≡ transcript text

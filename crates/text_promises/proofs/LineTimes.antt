@@ -9,6 +9,7 @@ use Rattle.meaning.specs.FrameTime.{counterOf, TrueTimes}
 use Rattle.rules.specs.Stretches.{needOf}
 use Rattle.lines.specs.Read.{LineReply, atEnd, goodLine, badLine}
 use Rattle.lines.specs.Frame.{readFrame}
+use Rattle.soundness.specs.Setup.{Setup}
 use Rattle.monitor.specs.Step as step
 use Rattle.monitor.specs.Step.{Call, frameOf, Reply}
 use Rattle.promises.specs.Stream.{State, Starts, started, after}
@@ -22,23 +23,23 @@ use Rattle.text_promises.specs.Meaning.{RulesThen}
 use Rattle.text_promises.specs.LineTimes.{readLines, written, textReplies, Shows, TranscriptShowsTrueTimes}
 use Rattle.text_promises.proofs.Meaning.{frames-follow}
 
-abbrev running : List ℕ → State → Running
-running table s = record { table = table; found = s .found; store = s .store }
+abbrev running : Setup → State → Running
+running setup s = record { setup = setup; found = s .found; store = s .store }
 
 -- The answers to good lines from a state, and the record's clock after each, as they are written.
-abbrev shown : List ℕ → State → List LineReply → List ℕ
-shown table s lines = written lines (replies table s (framesOf (goodLines lines))) (recordTimes table s (framesOf (goodLines lines)))
+abbrev shown : Setup → State → List LineReply → List ℕ
+shown setup s lines = written lines (replies setup s (framesOf (goodLines lines))) (recordTimes setup s (framesOf (goodLines lines)))
 
-frames-shown : (table : List ℕ) (s : State) (lines : List (List ℕ)) → framesFrom (running table s) lines ≡ shown table s (readLines lines)
+frames-shown : (setup : Setup) (s : State) (lines : List (List ℕ)) → framesFrom (running setup s) lines ≡ shown setup s (readLines lines)
 unfolding framesFrom written goodLines replies recordTimes
-frames-shown table s [] = refl
-frames-shown table s (line ∷ lines) = go (readFrame line 0 .said) (λ s. frames-shown table s lines)
+frames-shown setup s [] = refl
+frames-shown setup s (line ∷ lines) = go (readFrame line 0 .said) (λ s. frames-shown setup s lines)
   where
     go : (said : LineReply)
-        → ((s : State) → framesFrom (running table s) lines ≡ shown table s (readLines lines))
-        → frameReply (running table s) said ++ framesFrom (frameLeaves (running table s) said) lines ≡ shown table s (said ∷ readLines lines)
+        → ((s : State) → framesFrom (running setup s) lines ≡ shown setup s (readLines lines))
+        → frameReply (running setup s) said ++ framesFrom (frameLeaves (running setup s) said) lines ≡ shown setup s (said ∷ readLines lines)
     go atEnd more = more s
-    go (goodLine given) more = ap (λ (rest : List ℕ). frameReply (running table s) (goodLine given) ++ rest) (more _)
+    go (goodLine given) more = ap (λ (rest : List ℕ). frameReply (running setup s) (goodLine given) ++ rest) (more _)
     go (badLine fault) more = ap (λ (rest : List ℕ). refusedLine fault ++ rest) (more s)
 
 -- The times of refused lines are not shown.
@@ -55,7 +56,7 @@ accepted-shown (badLine fault ∷ lines) answered times others size size′ same
 accepted-shown (goodLine given ∷ lines) [] times others size size′ same = refl
 accepted-shown (goodLine given ∷ lines) (reply ∷ answered) [] others size size′ same = absurd (omega arith)
 accepted-shown (goodLine given ∷ lines) (reply ∷ answered) (time ∷ times) [] size size′ same = absurd (omega arith)
-accepted-shown (goodLine given ∷ lines) (step.verdict holds ∷ answered) (time ∷ times) (other ∷ others) size size′ same =
+accepted-shown (goodLine given ∷ lines) (step.verdict number ∷ answered) (time ∷ times) (other ∷ others) size size′ same =
     let here : time ≡ other = cc in
     rw (here, accepted-shown lines answered times others (omega arith) (omega arith) (cc))
 accepted-shown (goodLine given ∷ lines) (step.clockMoved ∷ answered) (time ∷ times) (other ∷ others) size size′ same =
@@ -64,50 +65,50 @@ accepted-shown (goodLine given ∷ lines) (step.clockMoved ∷ answered) (time �
 accepted-shown (goodLine given ∷ lines) (step.refusal fault ∷ answered) (time ∷ times) (other ∷ others) size size′ same =
     rw (accepted-shown lines answered times others (omega arith) (omega arith) same)
 
-length-replies : (table : List ℕ) (s : State) (calls : List Call) → length (replies table s calls) ≡ length calls
+length-replies : (setup : Setup) (s : State) (calls : List Call) → length (replies setup s calls) ≡ length calls
 unfolding replies
-length-replies table s [] = refl
-length-replies table s (c ∷ calls) = ap suc (length-replies table _ calls)
+length-replies setup s [] = refl
+length-replies setup s (c ∷ calls) = ap suc (length-replies setup _ calls)
 
-length-times : (table : List ℕ) (s : State) (calls : List Call) → length (recordTimes table s calls) ≡ length calls
+length-times : (setup : Setup) (s : State) (calls : List Call) → length (recordTimes setup s calls) ≡ length calls
 unfolding recordTimes
-length-times table s [] = refl
-length-times table s (c ∷ calls) = ap suc (length-times table _ calls)
+length-times setup s [] = refl
+length-times setup s (c ∷ calls) = ap suc (length-times setup _ calls)
 
 same-length : (lines : List (List ℕ)) (times : List ℕ) → countersOf lines ≡ map counterOf times → length (framesOf lines) ≡ length times
 same-length lines times same =
     length-map lines frameOf ∙ sym (length-map lines counterIn) ∙ ap length same ∙ length-map times counterOf
 
-module _ (text table : List ℕ) (lines : List (List ℕ)) (times : List ℕ) (rules : RulesThen [] (linesOf text) table lines)
-    (starts : Starts table emptyStore) (same : countersOf (goodLines (readLines lines)) ≡ map counterOf times) where
+module _ (text : List ℕ) (setup : Setup) (lines : List (List ℕ)) (times : List ℕ) (rules : RulesThen [] (linesOf text) setup lines)
+    (starts : Starts setup emptyStore) (same : countersOf (goodLines (readLines lines)) ≡ map counterOf times) where
   abbrev good : List (List ℕ)
   good = goodLines (readLines lines)
 
-  timed : LinesTimed table emptyStore good times
-  timed = line-times-are-true table emptyStore good times starts same
+  timed : LinesTimed setup emptyStore good times
+  timed = line-times-are-true setup emptyStore good times starts same
 
   -- The times shown are the record's.
-  shows : Shows text table lines (lineTimes table emptyStore good)
+  shows : Shows text setup lines (lineTimes setup emptyStore good)
   unfolding after
   shows =
-      frames-follow text table lines rules starts
-      ∙ ap (λ (rest : List ℕ). needLine (needOf table) ++ rest) (frames-shown table (started table emptyStore) lines)
+      frames-follow text setup lines rules starts
+      ∙ ap (λ (rest : List ℕ). needLine (needOf (setup .table)) ++ rest) (frames-shown setup (started setup emptyStore) lines)
 
-  shows-accepted : TrueTimes (acceptedTimes (textReplies table lines) times) → Shows text table lines times
+  shows-accepted : TrueTimes (acceptedTimes (textReplies setup lines) times) → Shows text setup lines times
   shows-accepted true-times =
-      let size = length-replies table (started table emptyStore) (framesOf good) in
+      let size = length-replies setup (started setup emptyStore) (framesOf good) in
       shows
-      ∙ ap (λ (rest : List ℕ). needLine (needOf table) ++ rest)
-      (accepted-shown (readLines lines) (textReplies table lines) (lineTimes table emptyStore good) times
-      (length-times table (started table emptyStore) (framesOf good) ∙ sym size)
+      ∙ ap (λ (rest : List ℕ). needLine (needOf (setup .table)) ++ rest)
+      (accepted-shown (readLines lines) (textReplies setup lines) (lineTimes setup emptyStore good) times
+      (length-times setup (started setup emptyStore) (framesOf good) ∙ sym size)
       (sym (same-length good times same) ∙ sym size)
       (timed .accepted-ones true-times))
 
 pub transcript-shows-true-times : TranscriptShowsTrueTimes
-transcript-shows-true-times text table lines times rules starts same =
+transcript-shows-true-times text setup lines times rules starts same =
     record {
       all = λ true-times within.
-          let told = timed text table lines times rules starts same .all true-times within in
-          (told .0, rw (told .1) at (shows text table lines times rules starts same));
-      accepted-ones = shows-accepted text table lines times rules starts same;
+          let told = timed text setup lines times rules starts same .all true-times within in
+          (told .0, rw (told .1) at (shows text setup lines times rules starts same));
+      accepted-ones = shows-accepted text setup lines times rules starts same;
     }

@@ -1,10 +1,13 @@
 -- The whole case of document 01 ("The program's text"), computed from the definition.
 use mathlib.Core.Path.{refl}
-use Rattle.text.specs.Transcript.{emptyStore, transcript, rulesFrom, tableThen, framesFrom}
+use Rattle.text.specs.Transcript.{emptyStore, transcript, rulesFrom, setupThen, framesFrom}
 use Rattle.lines.specs.Lines.{linesGoingOn}
 use Rattle.text.specs.Replies.{replyLine}
 use Rattle.lines.specs.Digits.{isDigit, digitValue, digitsAt, hexAt, digitByte, digits}
 use Rattle.lines.specs.Line.{rightAt, sumAt, lineAt}
+use Rattle.lines.specs.ListLine.{listMarked}
+use Rattle.row_list.specs.RowList.{risesWithin, listPasses}
+use Rattle.row_list.specs.Verdict.{bitsOf, verdictNumber}
 use Rattle.kinds.specs.Kinds.{kindAt}
 use Rattle.rules.specs.Table.{checkOf, lengthPasses, rowPasses, limitsPass, faultOf, firstFault}
 use Rattle.rules.specs.Rows.{numbersAt}
@@ -25,5 +28,5 @@ use Rattle.monitor.specs.Step.{refusalOf, stepOf}
 use Rattle.text_promises.specs.WholeCase.{WholeCase}
 
 pub whole-case : WholeCase
-unfolding emptyStore transcript rulesFrom tableThen framesFrom linesGoingOn replyLine isDigit digitValue digitsAt hexAt digitByte digits rightAt sumAt lineAt checkOf lengthPasses rowPasses limitsPass faultOf firstFault kindAt numbersAt offset endOf figure frameTime clip join update endAt spansFrom wordsOf packed covered soundSpan? soundFrom? soundEndless? soundSpans? zeros? soundStretch? stretchAt nothingSeen every soundRow? zeroPast? sound? readyOf startOf spansAfter truthOf truthsAfter countsWith wordsDone storeWith recordAfter refusalOf stepOf
+unfolding emptyStore transcript rulesFrom setupThen framesFrom linesGoingOn replyLine isDigit digitValue digitsAt hexAt digitByte digits rightAt sumAt lineAt listMarked risesWithin listPasses bitsOf verdictNumber checkOf lengthPasses rowPasses limitsPass faultOf firstFault kindAt numbersAt offset endOf figure frameTime clip join update endAt spansFrom wordsOf packed covered soundSpan? soundFrom? soundEndless? soundSpans? zeros? soundStretch? stretchAt nothingSeen every soundRow? zeroPast? sound? readyOf startOf spansAfter truthOf truthsAfter countsWith wordsDone storeWith recordAfter refusalOf stepOf
 whole-case = refl

@@ -8,6 +8,7 @@ use Rattle.rules.specs.Stretches.{needOf}
 use Rattle.lines.specs.Read.{LineReply, atEnd, goodLine, badLine}
 use Rattle.lines.specs.Frame.{readFrame}
 use Rattle.times.specs.Times.{timeLimit}
+use Rattle.soundness.specs.Setup.{Setup}
 use Rattle.monitor.specs.Step.{Reply}
 use Rattle.promises.specs.Stream.{Starts, accepted?}
 use Rattle.promises.specs.TextRead.{goodLines, countersOf}
@@ -31,27 +32,28 @@ written (goodLine given ∷ lines) (reply ∷ replies) [] = []
 written (goodLine given ∷ lines) (reply ∷ replies) (time ∷ times) = replyOf time reply ++ written lines replies times
 
 -- What the frames of the good lines are answered, from the start at the empty line.
-abbrev pub textReplies : List ℕ → List (List ℕ) → List Reply
-textReplies table lines = lineReplies table emptyStore (goodLines (readLines lines))
+abbrev pub textReplies : Setup → List (List ℕ) → List Reply
+textReplies setup lines = lineReplies setup emptyStore (goodLines (readLines lines))
 
 -- The text's output, with these times in the reply lines.
-abbrev pub Shows : (text table : List ℕ) → List (List ℕ) → List ℕ → Type 0
-Shows text table lines times = transcript text ≡ needLine (needOf table) ++ written (readLines lines) (textReplies table lines) times
+abbrev pub Shows : (text : List ℕ) → Setup → List (List ℕ) → List ℕ → Type 0
+Shows text setup lines times =
+    transcript text ≡ needLine (needOf (setup .table)) ++ written (readLines lines) (textReplies setup lines) times
 
--- Where all true times are as the demand says, and within the limit, each good line's reply is a verdict, or 02 for a heartbeat, with its true time.
--- Where those of the accepted lines are as the demand says, and the others any at all, each of these has its line's true time; the others are
+-- Where all true times are as the demand says, and within the limit, each good line's reply is a verdict, or hyphens for a heartbeat, with its true
+-- time. Where those of the accepted lines are as the demand says, and the others any at all, each of these has its line's true time; the others are
 -- refusals.
-pub record TextTimed (text table : List ℕ) (lines : List (List ℕ)) (times : List ℕ) : Type 0 where
+pub record TextTimed (text : List ℕ) (setup : Setup) (lines : List (List ℕ)) (times : List ℕ) : Type 0 where
   pub all : TrueTimes times
       → Every (λ (time : ℕ). time ≤ timeLimit) times
-      → Every (λ (reply : Reply). T (accepted? reply)) (textReplies table lines) × Shows text table lines times
-  pub accepted-ones : TrueTimes (acceptedTimes (textReplies table lines) times) → Shows text table lines times
+      → Every (λ (reply : Reply). T (accepted? reply)) (textReplies setup lines) × Shows text setup lines times
+  pub accepted-ones : TrueTimes (acceptedTimes (textReplies setup lines) times) → Shows text setup lines times
 
--- A text whose rules make a table that passes, with room in the program's store; the good lines after the empty line have the counters of true times,
--- and refused lines may stand between them.
+-- A text whose rules make a table that passes, and a list that does, with room in the program's store; the good lines after the empty line have the
+-- counters of true times, and refused lines may stand between them.
 abbrev pub TranscriptShowsTrueTimes : Type 0
-TranscriptShowsTrueTimes = (text table : List ℕ) (lines : List (List ℕ)) (times : List ℕ)
-    → RulesThen [] (linesOf text) table lines
-    → Starts table emptyStore
+TranscriptShowsTrueTimes = (text : List ℕ) (setup : Setup) (lines : List (List ℕ)) (times : List ℕ)
+    → RulesThen [] (linesOf text) setup lines
+    → Starts setup emptyStore
     → countersOf (goodLines (readLines lines)) ≡ map counterOf times
-    → TextTimed text table lines times
+    → TextTimed text setup lines times

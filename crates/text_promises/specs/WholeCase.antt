@@ -1,4 +1,4 @@
--- The whole case of document 01 ("The program's text"), as the page has it.
+-- The whole case of document 01 ("The program's text"), as the page has it, with verdicts "as four digits" (document 02, E4).
 use mathlib.Core.List.{List, [], _∷_, _++_}
 use mathlib.Core.Path.{_≡_}
 use Prim.Native.Nat.{ℕ}
@@ -25,10 +25,10 @@ caseInput =
 abbrev pub caseOutput : List ℕ
 caseOutput =
     lineBytes 8 0x00000004
-    ++ lineBytes 14 0x00000000000000
-    ++ lineBytes 14 0x00000000000201
-    ++ lineBytes 14 0x00000000000401
-    ++ lineBytes 14 0x00000000000500
+    ++ lineBytes 16 0x0000000000000000
+    ++ lineBytes 16 0x0000000000020001
+    ++ lineBytes 16 0x0000000000040001
+    ++ lineBytes 16 0x0000000000050000
     ++ lineBytes 6 0xEE0900
 
 abbrev pub WholeCase : Type 0

@@ -7,10 +7,10 @@ use Rattle.monitor_run.proofs.run.Statement.{statement}
 use Rattle.monitor_run.proofs.run.Tie as tie
 
 abbrev Inv-loop : tie.InvT-loop
-Inv-loop table store₀ times masks kept₀ i₀ store kept i = (i ≤ length times) × (length store ≡ length store₀)
+Inv-loop table list store₀ times masks kept₀ i₀ store kept i = (i ≤ length times) × (length store ≡ length store₀)
 
 abbrev μ-loop : tie.MeasureT-loop
-μ-loop table store₀ times masks kept₀ i₀ store kept i = length times - i
+μ-loop table list store₀ times masks kept₀ i₀ store kept i = length times - i
 
 loop-holds : tie.Need-loop-holds Inv-loop μ-loop
 loop-holds c = search needs

@@ -6,35 +6,35 @@ use Rattle.call_runs.proofs.call.judge.Tie as tie
 enum-known-call : tie.Need-enum-known-call
 enum-known-call c = search needs
 
-event-coded-requires : tie.Need-event-coded-requires
-event-coded-requires c κs = search needs
+event-requires : tie.Need-event-requires
+event-requires c κs = search needs
 
 enum-known-call-2 : tie.Need-enum-known-call-2
 enum-known-call-2 c = search needs
 
-frame-coded-requires : tie.Need-frame-coded-requires
-frame-coded-requires c κs = search needs
+frame-requires : tie.Need-frame-requires
+frame-requires c κs = search needs
 
 same-length : tie.Need-same-length
 same-length c = search needs
 
 returns : tie.Need-returns
-returns c = rw (c .before .before .before .before .before .call .given .1) (c .before .before .event-coded .ensures)
+returns c = rw (c .before .before .before .before .before .call .given .1) (c .before .before .event .ensures)
 
 same-length-2 : tie.Need-same-length-2
 same-length-2 c = search needs
 
 returns-2 : tie.Need-returns-2
-returns-2 c = rw (c .before .before .before .before .before .call2 .given .1) (c .before .before .frame-coded .ensures)
+returns-2 c = rw (c .before .before .before .before .before .call2 .given .1) (c .before .before .frame .ensures)
 
 pub judge-spec : {M : Type 1} → statement M
 judge-spec =
     tie.close
     (tie.spec
     enum-known-call
-    event-coded-requires
+    event-requires
     enum-known-call-2
-    frame-coded-requires
+    frame-requires
     same-length
     returns
     same-length-2

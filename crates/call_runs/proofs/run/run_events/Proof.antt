@@ -31,7 +31,7 @@ returns : tie.Need-returns
 returns c =
     let called = c .before .before .before .before in
     let counted = called .before .before .before .before in
-    let given = counted .before .before .before .before .before .before .before .args in
+    let given = counted .before .before .before .before .before .before .before .before .args in
     let times : List ℕ = given .times .now in
     let masks : List ℕ = given .masks .now in
     let codes : List ℕ = given .answers .now in

@@ -31,7 +31,7 @@ returns : tie.Need-returns
 returns c =
     let called = c .before .before .before .before in
     let counted = called .before .before .before .before in
-    let given = counted .before .before .before .before .before .before .before .args in
+    let given = counted .before .before .before .before .before .before .before .before .args in
     let counters : List ℕ = given .counters .now in
     let masks : List ℕ = given .masks .now in
     let codes : List ℕ = given .answers .now in

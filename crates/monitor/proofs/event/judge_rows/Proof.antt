@@ -11,7 +11,8 @@ use Rattle.rules.specs.Rows.{rowsOf}
 use Rattle.rules.specs.Stretches.{offset}
 use Rattle.soundness.specs.declared.record.Record.{Record}
 use Rattle.monitor.specs.Event.{truthsAfter, countsWith, wordsDone, storeWith}
-use Rattle.monitor.specs.Step.{setupOf, event}
+use Rattle.soundness.specs.Setup.{setupOf}
+use Rattle.monitor.specs.Step.{event}
 use Rattle.monitor.specs.Core.{recordMet, momentMet, AfterRows}
 use Rattle.monitor.proofs.AcceptedLaws.{Accepted, accepted}
 use Rattle.monitor.proofs.TurnLaws.{length-judged, row-ready, next-place, row-turn}
@@ -43,8 +44,8 @@ module _ (c : tie.At-loop Inv-loop μ-loop) where
 
   met : Accepted (now (at-start .args .table)) (now (at-start .args .store)) kept (at-start .args .arrival .time)
   met =
-      accepted (setupOf (now (at-start .args .table))) (now (at-start .args .store)) kept
-      (event (at-start .args .arrival .time) (at-start .args .arrival .mask)) (at-start .pre .0)
+      accepted (setupOf (now (at-start .args .table)) (at-start .pre .0 .0)) (now (at-start .args .store)) kept
+      (event (at-start .args .arrival .time) (at-start .args .arrival .mask)) (at-start .pre .0 .1)
 
 lower : (c : tie.In-loop Inv-loop μ-loop) → c .before .loop .row < rowsOf (now (at-start (c .before) .args .table))
 lower c = omega (arith, at-start (c .before) .pre .1 .0)

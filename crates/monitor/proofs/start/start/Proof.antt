@@ -16,7 +16,7 @@ use Rattle.monitor.proofs.start.start.Tie as tie
 abbrev words-needed : tie.After-known-told2 → ℕ
 words-needed c = c .before .checked2 .given .0 .1 .0
 
-need-fits : (c : tie.After-known-told2) → words-needed c ≤ length (c .before .before .before .before .before .before .args .store .now)
+need-fits : (c : tie.After-known-told2) → words-needed c ≤ length (c .before .before .before .before .before .before .before .args .store .now)
 need-fits c = ready-room _ _ _ _ (sym (c .before .before .before .ready .ensures) ∙ ap checkReply (c .before .checked2 .given .1))
 
 ready-requires : tie.Need-ready-requires
@@ -63,7 +63,7 @@ unfolding startOf
 returns-2 c =
     let cleared = c .before .before .before in
     let passed = cleared .before .before in
-    let store = passed .before .before .before .before .before .before .args .store .now in
+    let store = passed .before .before .before .before .before .before .before .args .store .now in
     rw (
       ← (passed .before .before .before .ready .ensures),
       passed .before .checked2 .given .1,

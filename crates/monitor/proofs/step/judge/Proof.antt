@@ -1,9 +1,10 @@
--- `monitor::step::judge` meets its contract: a refusal 1 to 4 or 7, or what `judge_sound` says. Assumes nothing.
+-- `monitor::step::judge` meets its contract: a refusal 1 to 3, 10, 4 or 7, or what `judge_sound` says. Assumes nothing.
 use mathlib.Core.Path.{_≡_, sym, ap, _∙_}
 use denote.Ref.{now}
 use borrow.Author.Needs.{needs}
 use Rattle.rules.specs.Table.{checkReply}
 use Rattle.soundness.specs.declared.record.Record.{Record}
+use Rattle.soundness.specs.Setup.{setupOf}
 use Rattle.monitor.specs.Core.{recordMet}
 use Rattle.soundness.proofs.SoundnessLaws.{sound-parts}
 use Rattle.monitor.proofs.StepLaws.{left-refused, fit-refused, Fit, fit-gives}
@@ -25,12 +26,12 @@ enum-known-checked-2 c = search needs
 -- The record fits, and so its row count is the table's.
 module _ (c : tie.After-known-told2) where
   abbrev at-start : tie.Start
-  at-start = c .before .before .before .before .before .before .before .before .before
+  at-start = c .before .before .before .before .before .before .before .before .before .before
 
   abbrev kept : Record
   kept = recordMet (at-start .args .arrival) (at-start .args .count) (now (at-start .args .truths)) (now (at-start .args .counts))
 
-  fits : Fit (now (at-start .args .table)) (now (at-start .args .store)) kept (c .before .checked2 .given .0 .0)
+  fits : Fit (setupOf (now (at-start .args .table)) (now (at-start .args .list))) (now (at-start .args .store)) kept (c .before .checked2 .given .0 .0)
   fits = fit-gives _ _ _ _ _ (sym (ap checkReply (c .before .checked2 .given .1)) ∙ c .before .before .before .fit .ensures)
 
   counted : at-start .args .count ≡ c .before .checked2 .given .0 .0
@@ -51,7 +52,7 @@ returns : tie.Need-returns
 returns c =
     let met = c .before .before in
     rw (c .refused .ensures)
-    (left-refused _ _ (met .before .before .before .before .before .before .before .before .args .arrival) _ _ _ _ _
+    (left-refused _ _ (met .before .before .before .before .before .before .before .before .before .args .arrival) _ _ _ _ _
     (fit-refused _ _ _ _ _ (sym (ap checkReply (met .checked .given .1)) ∙ met .before .before .fit .ensures)))
 
 same-length-2 : tie.Need-same-length-2

@@ -1,6 +1,6 @@
 -- `monitor::truths::byte_of` meets its contract: the cast makes 1 of true and 0 of false. Assumes nothing.
 use borrow.Author.Needs.{needs}
-use Rattle.soundness.proofs.RecordLaws.{byte-told}
+use Rattle.row_list.proofs.TruthsLaws.{byte-told}
 use Rattle.monitor.proofs.truths.byte_of.Statement.{statement}
 use Rattle.monitor.proofs.truths.byte_of.Tie as tie
 

@@ -3,7 +3,7 @@ use mathlib.Core.Path.{sym, ap, _∙_}
 use borrow.Author.Needs.{needs}
 use Rattle.rules.specs.Table.{checkReply}
 use Rattle.soundness.specs.Fit.{fitOf}
-use Rattle.soundness.proofs.ReadyLaws.{ready-gives}
+use Rattle.soundness.proofs.ReadyLaws.{ready-gives, ready-table}
 use Rattle.soundness.proofs.fit.fit.Statement.{statement}
 use Rattle.soundness.proofs.fit.fit.Tie as tie
 
@@ -22,7 +22,7 @@ cast-sound-record c = search needs
 sound-record-requires : tie.Need-sound-record-requires
 sound-record-requires c κs =
     let passes = sym (c .before .before .before .ready .ensures) ∙ ap checkReply (c .before .checked2 .given .1) in
-    (rw passes, ready-gives _ _ _ _ passes .passes .counted)
+    (ready-table _ _ _ _ passes, ready-gives _ _ _ _ passes .table .passes .counted)
 
 returns : tie.Need-returns
 unfolding fitOf

@@ -8,7 +8,7 @@ use Rattle.rules.specs.Rows.{rowsOf}
 use Rattle.soundness.specs.declared.record.Record.{Record}
 use Rattle.soundness.specs.Record.{recordOf}
 use Rattle.soundness.specs.Soundness.{every, soundRow?, soundTimes?}
-use Rattle.soundness.proofs.ReadyLaws.{ready-none}
+use Rattle.soundness.proofs.ReadyLaws.{table-ready}
 use Rattle.soundness.proofs.SoundnessLaws.{times-within, rows-counted, unsound-count, unsound-time, unsound-row, sound-by-past}
 use Rattle.soundness.proofs.soundness.sound_record.Statement.{statement}
 use Rattle.soundness.proofs.soundness.sound_record.Tie as tie
@@ -54,7 +54,7 @@ rows-told c =
 zero-past-requires : tie.Need-zero-past-requires
 zero-past-requires c κs =
     let start = at-start (c .before .before .before .before) in
-    omega (arith, start .pre .1, ready-none _ _ (start .pre .0) .passes .few-rows)
+    omega (arith, start .pre .1, table-ready _ _ (start .pre .0) .passes .few-rows)
 
 returns-2 : tie.Need-returns-2
 returns-2 c =

@@ -16,7 +16,7 @@ use Rattle.spans.specs.Layout.{spanWords}
 use Rattle.soundness.specs.declared.record.Record.{Record}
 use Rattle.soundness.specs.Record.{recordOf}
 use Rattle.soundness.specs.Soundness.{every, soundRow?}
-use Rattle.soundness.proofs.ReadyLaws.{Ready, ready-none}
+use Rattle.soundness.proofs.ReadyLaws.{Ready, table-ready}
 use Rattle.soundness.proofs.SoundnessLaws.{every-not, every-more, row-told, offset-next, stretch-fits}
 use Rattle.soundness.proofs.soundness.sound_rows.Statement.{statement}
 use Rattle.soundness.proofs.soundness.sound_rows.Tie as tie
@@ -44,7 +44,7 @@ module _ (c : tie.After-spans Inv-loop μ-loop) where
   at-start = c .before .before .before .before .before .before
 
   abbrev ready : Ready (now (at-start .args .table)) (length (now (at-start .args .store))) (rowsOf (now (at-start .args .table)))
-  ready = ready-none (now (at-start .args .table)) (length (now (at-start .args .store))) (at-start .pre .0)
+  ready = table-ready (now (at-start .args .table)) (length (now (at-start .args .store))) (at-start .pre .0)
 
   abbrev kept : Record
   kept =

@@ -1,24 +1,39 @@
 -- `text::turn::empty_line` meets its contract: the monitor's answer decides. Assumes nothing.
 use mathlib.Core.Path.{_≡_}
-use Prim.Native.Nat.{_*_, _-_}
+use Prim.Native.Nat.{_*_}
+use native.Mathlib.Nat.{sub-zero}
 use native.Mathlib.Omega.{arith}
 use borrow.Author.Needs.{needs}
+use lib.ListN.{length}
 use Rattle.rules.specs.Limits.{rowNumbers}
-use Rattle.text.proofs.TurnLaws.{start-good, start-refused}
+use Rattle.row_list.specs.RowList.{listLimit}
+use Rattle.text.proofs.TurnLaws.{numbers-lent, start-good, start-refused}
 use Rattle.text.proofs.turn.empty_line.Statement.{statement}
 use Rattle.text.proofs.turn.empty_line.Tie as tie
 
 mul-end : tie.Need-mul-end
 mul-end c = search needs
 
-sub-read : tie.Need-sub-read
-sub-read c = search needs
+sub-start : tie.Need-sub-start
+sub-start c = search needs
 
-part-read-start : tie.Need-part-read-start
-part-read-start c = search needs
+part-start-start : tie.Need-part-start-start
+part-start-start c = search needs
 
-part-read-end : tie.Need-part-read-end
-part-read-end c = search needs
+part-start-end : tie.Need-part-start-end
+part-start-end c = search needs
+
+within-limit-requires : tie.Need-within-limit-requires
+within-limit-requires c κs = search needs
+
+sub-start-2 : tie.Need-sub-start-2
+sub-start-2 c = search needs
+
+part-start-start-2 : tie.Need-part-start-start-2
+part-start-start-2 c = search needs
+
+part-start-end-2 : tie.Need-part-start-end-2
+part-start-end-2 c = search needs
 
 start-requires : tie.Need-start-requires
 start-requires c κs = search needs
@@ -46,10 +61,17 @@ returns c =
     let told = c .before .before in
     let known = told .before .before .before in
     let started = known .before .before .before .before .before in
-    let entry = started .before .before .before .before .before .before .args in
-    let whole : entry .stage .rows * rowNumbers - 0 ≡ entry .stage .rows * rowNumbers = omega arith in
-    start-good (entry .stage) (entry .table .now) (entry .store .now) _ _ _ _ (started .start .result) _ _
-    (rw whole at (started .start .ensures))
+    let counted = started .before .before .before in
+    let entry = counted .before .before .before .before .before .before .before .before .before .args in
+    let list = entry .t2 in
+    let size : length (list .rows) ≡ listLimit = omega arith in
+    start-good (entry .stage) list (entry .table .now) (entry .store .now) _ _ _ _ (started .start .result) _ _
+    (rw (
+      sub-zero (entry .stage .rows * rowNumbers),
+      sub-zero (counted .within-limit .result),
+      counted .within-limit .ensures,
+      numbers-lent list size,
+    ) at (started .start .ensures))
     (known .answer .given .1)
     (told .write-need .ensures)
 
@@ -64,10 +86,17 @@ returns-2 c =
     let told = c .before .before in
     let known = told .before .before .before in
     let started = known .before .before .before .before .before in
-    let entry = started .before .before .before .before .before .before .args in
-    let whole : entry .stage .rows * rowNumbers - 0 ≡ entry .stage .rows * rowNumbers = omega arith in
-    start-refused (entry .stage) (entry .table .now) (entry .store .now) _ _ _ _ (started .start .result) _ _
-    (rw whole at (started .start .ensures))
+    let counted = started .before .before .before in
+    let entry = counted .before .before .before .before .before .before .before .before .before .args in
+    let list = entry .t2 in
+    let size : length (list .rows) ≡ listLimit = omega arith in
+    start-refused (entry .stage) list (entry .table .now) (entry .store .now) _ _ _ _ (started .start .result) _ _
+    (rw (
+      sub-zero (entry .stage .rows * rowNumbers),
+      sub-zero (counted .within-limit .result),
+      counted .within-limit .ensures,
+      numbers-lent list size,
+    ) at (started .start .ensures))
     (known .answer2 .given .1)
     (told .write-refused .ensures)
 
@@ -76,9 +105,13 @@ empty-line-spec =
     tie.close
     (tie.spec
     mul-end
-    sub-read
-    part-read-start
-    part-read-end
+    sub-start
+    part-start-start
+    part-start-end
+    within-limit-requires
+    sub-start-2
+    part-start-start-2
+    part-start-end-2
     start-requires
     enum-known-answer
     write-need-requires

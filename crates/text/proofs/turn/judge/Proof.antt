@@ -1,13 +1,21 @@
--- `text::turn::judge` meets its contract: the monitor's answer decides. Assumes nothing.
+-- `text::turn::judge` meets its contract: what the monitor answers and leaves is what the frame brings. Assumes nothing.
+use mathlib.Core.Path.{_≡_}
+use Prim.Native.Nat.{_*_}
 use native.Mathlib.Nat.{sub-zero}
+use native.Mathlib.Omega.{arith}
 use borrow.Author.Needs.{needs}
-use Rattle.soundness.proofs.RecordLaws.{byte-told}
-use Rattle.text.proofs.TurnLaws.{frame-told}
+use lib.ListN.{length}
+use Rattle.rules.specs.Limits.{rowNumbers}
+use Rattle.row_list.specs.RowList.{listLimit}
+use Rattle.text.proofs.TurnLaws.{numbers-lent, frame-told}
 use Rattle.text.proofs.turn.judge.Statement.{statement}
 use Rattle.text.proofs.turn.judge.Tie as tie
 
 mul-end : tie.Need-mul-end
 mul-end c = search needs
+
+within-limit-requires : tie.Need-within-limit-requires
+within-limit-requires c κs = search needs
 
 sub-frame : tie.Need-sub-frame
 sub-frame c = search needs
@@ -18,29 +26,20 @@ part-frame-start c = search needs
 part-frame-end : tie.Need-part-frame-end
 part-frame-end c = search needs
 
+sub-frame-2 : tie.Need-sub-frame-2
+sub-frame-2 c = search needs
+
+part-frame-start-2 : tie.Need-part-frame-start-2
+part-frame-start-2 c = search needs
+
+part-frame-end-2 : tie.Need-part-frame-end-2
+part-frame-end-2 c = search needs
+
 frame-requires : tie.Need-frame-requires
 frame-requires c κs = search needs
 
-enum-known-answer : tie.Need-enum-known-answer
-enum-known-answer c = search needs
-
-cast-write-accepted : tie.Need-cast-write-accepted
-cast-write-accepted c = search needs
-
-write-accepted-requires : tie.Need-write-accepted-requires
-write-accepted-requires c κs = search needs
-
-enum-told : tie.Need-enum-told
-enum-told c = search needs
-
-write-accepted-requires-2 : tie.Need-write-accepted-requires-2
-write-accepted-requires-2 c κs = search needs
-
-enum-known-answer-2 : tie.Need-enum-known-answer-2
-enum-known-answer-2 c = search needs
-
-write-refused-requires : tie.Need-write-refused-requires
-write-refused-requires c κs = search needs
+write-answer-requires : tie.Need-write-answer-requires
+write-answer-requires c κs = search needs
 
 same-length : tie.Need-same-length
 same-length c = search needs
@@ -51,70 +50,33 @@ same-length-2 c = search needs
 returns : tie.Need-returns
 returns c =
     let told = c .before .before in
-    let known = told .before .before .before in
-    let judged = known .before .before .before .before .before in
-    let entry = judged .before .before .before .before .before .before .before .args in
-    frame-told (entry .stage) (entry .table .now) (entry .store .now) _ _ _ _ _ _ (judged .frame .result) _ _
-    (rw sub-zero at (judged .frame .ensures))
-    (rw (known .answer .given .1, byte-told))
-    (told .write-accepted .ensures)
-
-same-length-3 : tie.Need-same-length-3
-same-length-3 c = search needs
-
-same-length-4 : tie.Need-same-length-4
-same-length-4 c = search needs
-
-returns-2 : tie.Need-returns-2
-returns-2 c =
-    let told = c .before .before in
-    let known = told .before .before in
-    let judged = known .before .before .before .before .before in
-    let entry = judged .before .before .before .before .before .before .before .args in
-    frame-told (entry .stage) (entry .table .now) (entry .store .now) _ _ _ _ _ _ (judged .frame .result) _ _
-    (rw sub-zero at (judged .frame .ensures))
-    (rw (known .enum-told .given .1))
-    (told .write-accepted2 .ensures)
-
-same-length-5 : tie.Need-same-length-5
-same-length-5 c = search needs
-
-same-length-6 : tie.Need-same-length-6
-same-length-6 c = search needs
-
-returns-3 : tie.Need-returns-3
-returns-3 c =
-    let told = c .before .before in
-    let known = told .before .before .before in
-    let judged = known .before .before .before .before .before in
-    let entry = judged .before .before .before .before .before .before .before .args in
-    frame-told (entry .stage) (entry .table .now) (entry .store .now) _ _ _ _ _ _ (judged .frame .result) _ _
-    (rw sub-zero at (judged .frame .ensures))
-    (rw (known .answer2 .given .1))
-    (told .write-refused .ensures)
+    let judged = told .before .before .before .before .before in
+    let counted = judged .before .before .before .before .before .before .before .before in
+    let entry = counted .before .before .before .before .before .args in
+    let size : length (entry .stage .list .rows) ≡ listLimit = omega arith in
+    frame-told (entry .stage) (entry .table .now) (entry .store .now) _ _ _ _ _ _ (judged .frame .result) _
+    (rw (
+      sub-zero (entry .stage .rows * rowNumbers),
+      sub-zero (counted .within-limit .result),
+      counted .within-limit .ensures,
+      numbers-lent (entry .stage .list) size,
+    ) at (judged .frame .ensures))
+    (told .write-answer .ensures)
 
 pub judge-spec : {M : Type 1} → statement M
 judge-spec =
     tie.close
     (tie.spec
     mul-end
+    within-limit-requires
     sub-frame
     part-frame-start
     part-frame-end
+    sub-frame-2
+    part-frame-start-2
+    part-frame-end-2
     frame-requires
-    enum-known-answer
-    cast-write-accepted
-    write-accepted-requires
-    enum-told
-    write-accepted-requires-2
-    enum-known-answer-2
-    write-refused-requires
+    write-answer-requires
     same-length
     same-length-2
-    returns
-    same-length-3
-    same-length-4
-    returns-2
-    same-length-5
-    same-length-6
-    returns-3)
+    returns)

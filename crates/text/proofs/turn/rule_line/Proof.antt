@@ -22,8 +22,8 @@ mul-add-row c = search needs
 add-row-requires : tie.Need-add-row-requires
 add-row-requires c κs = search needs
 
-add-t20 : tie.Need-add-t20
-add-t20 c = search needs
+add-t21 : tie.Need-add-t21
+add-t21 c = search needs
 
 enum-known-rule-2 : tie.Need-enum-known-rule-2
 enum-known-rule-2 c = search needs
@@ -50,7 +50,7 @@ same-length c = search needs
 
 returns-2 : tie.Need-returns-2
 returns-2 c = λ store.
-    let known = c .before .before .before .before .before .before in
+    let known = c .before .before .before .before .before .before .before in
     let read = known .before .before .read-rule in
     rw (read-found ruleFound _ _ _ _ (read .ensures) (known .rule .given .1))
     (record { left = rw (c .before .before .add-row .ensures); wrote = wrote-none _ _ })
@@ -78,7 +78,7 @@ rule-line-spec =
     enum-known-rule
     mul-add-row
     add-row-requires
-    add-t20
+    add-t21
     enum-known-rule-2
     ended-requires
     number-requires
