@@ -1,19 +1,20 @@
 /* Muktrashi: a proved monitor for a pool's touch-pad board. docs/FIRMWARE.md tells how to build the library for a processor and what a caller sees to.
  *
- * A rule table in past-time metric temporal logic, lent as a row of 32-bit numbers, five per row: kind, x, y, a, b; 1 to 64 rows, the last is the
- * formula judged. A store, lent as a row of 64-bit words. A record, which the caller keeps. docs/RULES.md tells how to write a rule.
+ * A rule table in past-time metric temporal logic, lent as a row of 32-bit numbers, five per row: kind, x, y, a, b; 1 to 64 rows, counted from 0. A list
+ * of the rows that are judged, lent as a row of 32-bit row numbers; 1 to 16, strictly rising. A store, lent as a row of 64-bit words. A record, which the
+ * caller keeps. docs/RULES.md tells how to write a rule.
  *
  * Every function answers every input, however damaged, with one code. The library has no data of its own and keeps no pointer: calls may run at the same
  * time, and one may interrupt another, if no two share a store or a record.
  *
- * Lengths and places are uint64_t on every processor; they count numbers, words and bytes, never the bytes of a number. A pointer to a row (table, store,
- * text) is aligned for its numbers and points at as many as the length beside it says; with length 0 it may be null, and means an empty table, store or
- * text. Any other pointer points at one record or number, aligned, and is not null. What a call may write (store, record, single numbers) overlaps nothing
- * else that the call is lent. No call can test any of this: a null, unaligned or overlapping pointer, or a length that is too great, is outside every
- * promise.
+ * Lengths and places are uint64_t on every processor; they count numbers, words and bytes, never the bytes of a number. A pointer to a row (table, list,
+ * store, text) is aligned for its numbers and points at as many as the length beside it says; with length 0 it may be null, and means an empty table, list,
+ * store or text. Any other pointer points at one record or number, aligned, and is not null. What a call may write (store, record, single numbers) overlaps
+ * nothing else that the call is lent. No call can test any of this: a null, unaligned or overlapping pointer, or a length that is too great, is outside
+ * every promise.
  *
- * Between calls leave table, store and record to the monitor. What was changed in between is refused (1 to 4 or 7) or, if it is still sound, answered
- * from the spans and truths found.
+ * Between calls leave table, store and record to the monitor. What was changed in between is refused (1 to 4, 10 or 7) or, if it is still sound, answered
+ * from the spans and truths found. The list may be another with each call: it only says which truths are told.
  */
 #ifndef MUKTRASHI_H
 #define MUKTRASHI_H
@@ -25,10 +26,12 @@
 extern "C" {
 #endif
 
-/* Raised whenever the record or a code changes; muk_version answers the library's. */
-#define MUK_VERSION 2
+/* Raised whenever the record, a code or what a function takes changes; muk_version answers the library's. */
+#define MUK_VERSION 3
 
 #define MUK_ROWS 64
+/* The most row numbers that a list has. */
+#define MUK_LIST 16
 
 /* `seen` and `truths` are 0 or 1; a record with any other byte there is not sound (7). Padding between fields is nobody's: compare records field by
  * field. */
@@ -65,6 +68,7 @@ enum {
     MUK_BAD_LENGTH = 1,  /* the table's length is not a multiple of 5, or its rows are not 1 to 64 */
     MUK_BAD_ROW = 2,     /* a row: kind over 8, x or y not lower, bit over 30, unused number not 0 */
     MUK_BAD_LIMITS = 3,  /* a row passes 2, but a is over 86,400,000, or b is not a to 86,400,000 or 4,294,967,295 ("no end") */
+    MUK_BAD_LIST = 10,   /* the list is not 1 to 16 numbers, strictly rising, each below the table's row count */
     MUK_SHORT_STORE = 4, /* the store is shorter than the need */
     MUK_UNSOUND = 7,     /* the record, or what the store holds beside it, is not sound */
     MUK_LATE = 6,        /* the time is over 281,474,976,710,655 */
@@ -73,12 +77,13 @@ enum {
     MUK_BAD_SUM = 9      /* a line that is well formed, its sum wrong */
 };
 
-/* A code: bits 16 to 23 are a refusal's number, 0 where nothing is refused. Bits 0 to 15 are then what the call says of itself (a verdict; whether a
- * frame was read); of a refusal they are its row, 0 where it has none. Bit 31 alone is "clock moved", the answer to a heartbeat; in every other code it is
- * 0. Bits 24 to 30 are 0. */
+/* A code: bits 16 to 23 are a refusal's number, 0 where nothing is refused. Bits 0 to 15 are then what the call says of itself (a verdict, a bit for each
+ * listed row; whether a frame was read); of a refusal they are its row, 0 where it has none. Bit 31 alone is "clock moved", the answer to a heartbeat; in
+ * every other code it is 0. Bits 24 to 30 are 0. */
 #define MUK_MOVED 0x80000000u
 
-/* These take a code apart. Ask for the refusal, then whether the clock moved, then for the verdict: a verdict of 0 is "no" only where both are 0. */
+/* These take a code apart. Ask for the refusal, then whether the clock moved, then for the verdict: a verdict of 0 is "no" of every listed row only where
+ * both are 0. */
 static inline uint32_t muk_refusal(uint32_t code) { return (code >> 16) & 0xFFu; }
 static inline int muk_moved(uint32_t code) { return (code & MUK_MOVED) != 0; }
 static inline uint32_t muk_row(uint32_t code) { return muk_refusal(code) != 0 ? code & 0xFFFFu : 0u; }
@@ -91,26 +96,30 @@ uint32_t muk_version(void);
  * of two words for each span: floor(b/(b-a+2))+1 spans, or 1 when b has no end. It is always enough. */
 uint32_t muk_check(const uint32_t *table, uint64_t table_len, uint32_t *rows, uint64_t *need);
 
-/* A start: refusals 1 to 4, or 0. A good start writes 0 to every word of the need and makes the record one that has seen no event, its clock 0; what
- * the record held does not matter. A refused one leaves the store, and the record all zero. Words past the need are never written, by any call, and
+/* A start: refusals 1 to 3, 10 and 4, or 0. A good start writes 0 to every word of the need and makes the record one that has seen no event, its clock 0;
+ * what the record held does not matter. A refused one leaves the store, and the record all zero. Words past the need are never written, by any call, and
  * nothing depends on them. */
-uint32_t muk_start(const uint32_t *table, uint64_t table_len, uint64_t *store, uint64_t store_len, muk_record *record);
+uint32_t muk_start(const uint32_t *table, uint64_t table_len, const uint32_t *list, uint64_t list_len, uint64_t *store, uint64_t store_len,
+                   muk_record *record);
 
 /* A mask with this bit makes its call a heartbeat; a rule that names bit 31 is refused 2. */
 #define MUK_HEARTBEAT 0x80000000u
 
-/* One event, its time in whole milliseconds and its mask: refusals 1 to 4, then 7, 6, 5, or the verdict, 1 where the last row is true at this event,
- * otherwise 0. A time that equals the clock is accepted. The record is changed where it stands.
+/* One event, its time in whole milliseconds and its mask: refusals 1 to 3, 10 and 4, then 7, 6, 5, or the verdict: bit k is 1 where the k-th listed row, k
+ * from 0, is true at this event, all other bits are 0. A time that equals the clock is accepted. The record is changed where it stands, and it has every
+ * row's truth, listed or not.
  *
  * A heartbeat is no event; the other bits of its mask are ignored. The same refusals, or MUK_MOVED: the clock moves to its time, and every row's spans are
  * clipped there (ended ones are dropped, the first begins no earlier); `seen`, `last` and the truths stay. So "previous" (kind 5) measures from the last
  * event, and "since" (kind 6) does not break. Before any event the clock alone moves. */
-uint32_t muk_event(const uint32_t *table, uint64_t table_len, uint64_t *store, uint64_t store_len, muk_record *record, uint64_t time, uint32_t mask);
+uint32_t muk_event(const uint32_t *table, uint64_t table_len, const uint32_t *list, uint64_t list_len, uint64_t *store, uint64_t store_len,
+                   muk_record *record, uint64_t time, uint32_t mask);
 
 /* The same for a frame, whose time follows from its counter: clock + ((counter - clock) modulo 65,536), which for the first is its counter. Frames come
  * in order and at most 65,535 ms apart, events and heartbeats alike. The board's heartbeats, every 30 s, see to that, so hand them all on: a longer gap
  * between two accepted frames loses turns of 65,536 ms. A counter that steps back by 1 reads as 65,535 ms ahead. */
-uint32_t muk_frame(const uint32_t *table, uint64_t table_len, uint64_t *store, uint64_t store_len, muk_record *record, uint16_t counter, uint32_t mask);
+uint32_t muk_frame(const uint32_t *table, uint64_t table_len, const uint32_t *list, uint64_t list_len, uint64_t *store, uint64_t store_len,
+                   muk_record *record, uint16_t counter, uint32_t mask);
 
 /* The time of a frame where the clock is `clock` (0 after a start): refusal 6 where that is over 281,474,976,710,655; otherwise 0, and the time is
  * written. It may pass that limit by up to 65,535; a call at such a time is refused 6. */

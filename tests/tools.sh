@@ -43,15 +43,18 @@ for capture in "${captures[@]}"; do
     esac
 done
 
-# Lines read back: the digits of each rule line of the good captures, and of each frame of one, as numbers, give the same line. `uses` says where in a
-# line the numbers stand that a kind uses: first digit and count.
+# Lines read back: the digits of each rule line and list line of the good captures, and of each frame of one, as numbers, give the same line. `uses` says
+# where in a line the numbers stand that a kind uses: first digit and count.
 uses=('' '2:2' '2:2' '2:2 4:2' '2:2 4:2' '2:2 6:8 14:8' '2:2 4:2 6:8 14:8' '2:2 6:8 14:8' '2:2 6:8 14:8')
 lines=$(
     awk 'FNR == 1 { rules = 1 } /^$/ { rules = 0 } rules' "${good[@]}" | sort -u
     sed '1,/^$/d' examples/false-start.in
 )
 for line in $lines; do
-    if [ ${#line} -eq 24 ]; then
+    if [ "${line:0:2}" = AA ]; then
+        mapfile -t numbers < <(fold -w 2 <<<"${line:2:-2}" | sed 's/^/0x/')
+        again=$(tools/line list "${numbers[@]}")
+    elif [ ${#line} -eq 24 ]; then
         kind=$((16#${line:0:2})) numbers=()
         for place in ${uses[kind]}; do numbers+=("0x${line:${place%:*}:${place#*:}}"); done
         again=$(tools/line rule "$kind" "${numbers[@]}")
@@ -73,6 +76,11 @@ expect 0 07000000000001000000141C tools/line rule once 0 1 20
 expect 0 08000005265C0005265C0016 tools/line rule always 0 86400000 86400000
 expect 0 08000000000000FFFFFFFF04 tools/line rule always 0 0 no-end
 expect 0 03E8800000006B tools/line frame 0x3E8 0x80000000
+
+# A list of rows; the sum goes round.
+expect 0 AA00AA tools/line list 0
+expect 0 AA04090EC5 tools/line list 4 9 0xE
+expect 0 AA303132333435363738393A3B3C3D3E3F22 tools/line list {48..63}
 
 # line_refuses TEXT WORDS..: tools/line says TEXT of the words, and writes no line.
 line_refuses() {
@@ -114,6 +122,13 @@ rule_refuses 'once X A B' 'b is 4; it may be a, which is 5, to 86400000, or no e
 rule_refuses 'always X A B' 'b is 86400001; it may be a, which is 0, to 86400000, or no end' always 0 0 86400001
 rule_refuses 'always X A B' 'b is -1; it may be a, which is 0, to 86400000, or no end' always 0 0 -1
 rule_refuses 'previous X A B' "a: 'no-end' is no number; write it in decimal, or in hexadecimal after 0x" previous 0 no-end 5
+line_refuses "line list: error: row 4 is listed after row 9; a list rises" list 1 9 4
+line_refuses "line list: error: row 9 is listed after row 9; a list rises" list 9 9
+line_refuses "line list: error: row 64 is listed; rows are 0 to 63" list 0 64
+line_refuses "line list: error: row -1 is listed; rows are 0 to 63" list -1 0
+line_refuses "line list: error: a list has 1 to 16 rows, and here are 17" list {0..16}
+line_refuses "line list: error: the following arguments are required: ROW" list
+line_refuses "'ten' is no number" list ten
 line_refuses "there is no kind 9; kinds are 0 to 8" rule 9 0 0 0
 line_refuses "there is no kind -1; kinds are 0 to 8" rule -1
 line_refuses "there is no kind 'until'; kinds are true, bit, not, and, or, previous, since, once, always, or their numbers" rule until 0 0 0
@@ -128,6 +143,7 @@ for form in '' rule; do
         grep -q "^  $kind  " <<<"$writes" || fail "tools/line $form --help does not tell of '$kind'"
     done
 done
+expect 0 "usage: line list" tools/line list --help
 expect 0 "usage: table" tools/table --help
 expect 0 "usage: tools/footprint" tools/footprint --help
 expect 2 "there is no target 'cortex-m9'" tools/footprint cortex-m9
@@ -151,10 +167,10 @@ rows() {
 # row KIND X Y A B: its line.
 row() { rows <<<"$*"; }
 
-# Rows with their spans, words and meanings.
+# Rows with their spans, words and meanings; the last is bit 0 of the verdict.
 no_end=4294967295 printed=()
 while read -r kind x y a b spans words meaning; do
-    printed+=("$(printf '%3d  %5s  %5s  %s' "${#printed[@]}" "$spans" "$words" "$meaning")")
+    printed+=("$(printf '%3d  %5s  %5s        -  %s' "${#printed[@]}" "$spans" "$words" "$meaning")")
     printf '%s\n' "$kind $x $y $a $b"
 done <<END >"$work/numbers"
 0 0 0 0 0             -   - true at every event
@@ -177,6 +193,7 @@ done <<END >"$work/numbers"
 8 1 0 1000 $no_end    1   2 row 1 was true at every event 1000 ms ago or longer
 8 1 0 0 $no_end       1   2 row 1 was true at every event so far
 END
+printed[-1]=${printed[-1]/      -  row/  bit 0  row}
 rows <"$work/numbers" >"$work/table"
 expect 0 "need: 1230 words of store" tools/table "$work/table"
 difference=$(diff <(sed -n '2,/^need:/p' <<<"$writes" | sed '$d') <(printf '%s\n' "${printed[@]}")) || fail "tools/table writes (<), not (>):
@@ -190,6 +207,37 @@ for kind in 7 8; do
     table_says 0 "note: the last row does not reach row 0, which decides nothing" "$bit" "$bit" "$(row $kind 1 0 0 20)"
     [ "$(grep -c '^note: the last row does not reach' <<<"$writes")" -eq 1 ] || fail "of kind $kind over row 1 tools/table writes '$writes'"
 done
+
+
+# Listed rows, each with its bit; what a list refuses, after the rows.
+two=("$bit" "$(row 1 1 0 0 0)" "$(row 4 0 1 0 0)" "$(row 3 0 1 0 0)")
+table_says 0 "  2      -      -    bit 0  row 0 or row 1 is true" "${two[@]}" AA0203AF ''
+grep -qF "  3      -      -    bit 1  rows 0 and 1 are both true" <<<"$writes" || fail "of two listed rows tools/table writes '$writes'"
+table_says 0 "  3      -      -    bit 0  rows 0 and 1 are both true" "${two[@]}" ''
+table_says 0 "note: the last row does not reach row 2, which decides nothing" "${two[@]}" ''
+table_says 0 "note: no listed row reaches row 3, which decides nothing" "${two[@]}" AA02AC ''
+[ "$(grep -c '^note:' <<<"$writes")" -eq 1 ] || fail "of a listed row that is not the last tools/table writes '$writes'"
+table_says 0 "note: no empty line ends the rules; the program refuses that by 8 (it writes EE0800)" "${two[@]}" AA0203AF
+table_says 1 "the list: refused 10: row 2 is listed after row 3; a list rises (the program writes EE0A00)" "${two[@]}" AA0302AF ''
+grep -qF 'bit 0  row' <<<"$writes" && fail "of a list that is refused tools/table writes '$writes'"
+table_says 1 "the list: refused 10: row 2 is listed after row 2; a list rises (the program writes EE0A00)" "${two[@]}" AA0202AE ''
+table_says 1 "the list: refused 10: row 4 is listed; rows are 0 to 3 (the program writes EE0A00)" "${two[@]}" AA0204B0 ''
+table_says 1 "(the program writes EE0800, and EE0A00 once an empty line ends the rules)" "${two[@]}" AA0204B0
+table_says 1 "row 1: refused 2: x names row 1; it may be a lower row, 0 to 0 (the program writes EE0201)" "$bit" "$(row 2 1 0 0 0)" AA09B3 ''
+table_says 1 "the list: refused 10" "$bit" "$(row 7 0 0 8192 8192)" AA0100AB ''
+table_says 1 "line 5: refused 10: the sum is AF, and the line says B0 (the program writes EE0A00)" "${two[@]}" AA0203B0 ''
+form="a list is AA, 1 to 16 row numbers and the sum, two digits 0-9 A-F each, and a line feed"
+for bad in AAAA AA AA0203A AA0203aF "AA$(printf '%02X' {0..16})32"; do
+    table_says 1 "line 5: refused 10: $form (the program writes EE0A00)" "${two[@]}" "$bad" ''
+done
+table_says 1 "$form; it ends in CR LF, not in a line feed alone (the program writes EE0A00)" "${two[@]}" AA0203AF$'\r' ''
+for more in AA0203AF "$bit" 0; do
+    table_says 1 "line 6: refused 10: only the empty line may follow the list (the program writes EE0A00)" "${two[@]}" AA0203AF "$more" ''
+done
+table_says 1 "the table: refused 1: it has no row (the program writes EE0100)" AA00AA ''
+table_says 1 "the table: refused 8: the text ends before an empty line (the program writes EE0800)" AA00AA
+expect 1 "line 2: refused 10: $form" tools/table <(printf '%s\nAA00AA' "$bit")
+expect 1 "line 2: refused 8: not 24 digits" tools/table <(printf '%s\nA' "$bit")
 
 table_says 0 "note: no empty line ends the rules; the program refuses that by 8 (it writes EE0800)" "$true"
 table_says 0 "(it writes EE0400 once an empty line ends the rules)" "$true" "$(row 6 0 0 8192 8192)"
@@ -209,6 +257,7 @@ table_says 1 "row 1: refused 3: b is 86400001; it may be a, which is 0, to 86400
 table_says 1 "row 1: refused 3: b is 2; it may be a, which is 3, to 86400000, or no end" "$true" "$(row 8 0 0 3 2)"
 mapfile -t full < <(for _ in {1..65}; do printf '%s\n' "$true"; done)
 table_says 1 "line 65: refused 1" "${full[@]}"
+table_says 0 "  0      -      -    bit 0  true at every event" "${full[@]:1}" AA00AA ''
 table_says 1 "line 1: refused 8: not 24 digits 0-9 A-F and a line feed (the program writes EE0800)" 00000000000000000000000a
 table_says 1 "it ends in CR LF, not in a line feed alone (the program writes EE0801)" "$true" "$true"$'\r'
 

@@ -1,6 +1,7 @@
 """The board's rule table and text lines (documents 01 and 02), as the scripts of this folder share them.
 
-A rule is five numbers: kind, x, y, a, b. A rule line is these in 24 hexadecimal digits with their sum, a frame line is a counter and a mask in 14.
+A rule is five numbers: kind, x, y, a, b. A rule line is these in 24 hexadecimal digits with their sum, a frame line is a counter and a mask in 14. A list
+line is AA, the row numbers that are judged and the sum, two digits each.
 """
 
 import argparse
@@ -11,6 +12,8 @@ import sys
 from collections import namedtuple
 
 ROW_LIMIT = 64
+LIST_LIMIT = 16  # the most rows that a list names
+LIST_MARK = 0xAA  # a list line begins with it, and no rule line does
 HEARTBEAT_BIT = 31  # a frame with it is a heartbeat; a rule asks for the bits below
 LONGEST = 86_400_000
 NO_END = 4_294_967_295
@@ -78,10 +81,26 @@ def rule_line(rule):
     return line(Rule._fields, rule, RULE_WIDTHS)
 
 
+def list_line(rows):
+    names = ["the mark"] + [f"row {row}" for row in rows]
+    return line(names, [LIST_MARK, *rows], [1] * len(names))
+
+
 def frame_line(counter, mask):
     if counter >= TURN:
         raise OutOfRange(f"counter: {counter} is outside 0 to {TURN - 1}; modulo {TURN} it is {counter % TURN}")
     return line(("counter", "mask"), (counter, mask), FRAME_WIDTHS)
+
+
+def ending_fault(text):
+    """What is wrong with a line's end that the eye does not see; nothing, or words to put behind others."""
+    return "; it ends in CR LF, not in a line feed alone" if text.endswith(b"\r\n") else ""
+
+
+def sum_fault(data):
+    """Why the last byte is not the sum of those before it, or None."""
+    found = sum(data[:-1]) % 256
+    return None if found == data[-1] else f"the sum is {found:02X}, and the line says {data[-1]:02X}"
 
 
 def read_rule(text, index):
@@ -89,11 +108,11 @@ def read_rule(text, index):
     place = f"line {index + 1}"
     size = 2 * (sum(RULE_WIDTHS) + 1)
     if not re.fullmatch(rb"[0-9A-F]{%d}\n" % size, text):
-        ending = "; it ends in CR LF, not in a line feed alone" if text.endswith(b"\r\n") else ""
-        raise Refused(place, 8, index, f"not {size} digits 0-9 A-F and a line feed{ending}")
+        raise Refused(place, 8, index, f"not {size} digits 0-9 A-F and a line feed{ending_fault(text)}")
     data = bytes.fromhex(text.decode())
-    if sum(data[:-1]) % 256 != data[-1]:
-        raise Refused(place, 9, index, f"the sum is {sum(data[:-1]) % 256:02X}, and the line says {data[-1]:02X}")
+    fault = sum_fault(data)
+    if fault is not None:
+        raise Refused(place, 9, index, fault)
     numbers, start = [], 0
     for width in RULE_WIDTHS:
         numbers.append(int.from_bytes(data[start : start + width], "big"))
@@ -101,16 +120,34 @@ def read_rule(text, index):
     return Rule(*numbers)
 
 
+def read_list(text, index):
+    """The row numbers in a list line."""
+    place = f"line {index + 1}"
+    if not re.fullmatch(rb"(?:[0-9A-F]{2}){3,%d}\n" % (LIST_LIMIT + 2), text):
+        form = f"a list is AA, 1 to {LIST_LIMIT} row numbers and the sum, two digits 0-9 A-F each, and a line feed"
+        raise Refused(place, 10, 0, form + ending_fault(text))
+    data = bytes.fromhex(text.decode())
+    fault = sum_fault(data)
+    if fault is not None:
+        raise Refused(place, 10, 0, fault)
+    return list(data[1:-1])
+
+
 def read_table(text):
-    """The rules up to the empty line or to the text's end, and whether there is an empty line."""
-    rules = []
+    """The rules up to the empty line or to the text's end, the list or None, and whether there is an empty line."""
+    rules, listed = [], None
     for index, content in enumerate(re.findall(rb"[^\n]*\n|[^\n]+", text)):
         if content == b"\n":
-            return rules, True
-        if index == ROW_LIMIT:
+            return rules, listed, True
+        if listed is not None:
+            raise Refused(f"line {index + 1}", 10, 0, "only the empty line may follow the list")
+        if content.startswith(b"%02X" % LIST_MARK):
+            listed = read_list(content, index)
+        elif index == ROW_LIMIT:
             raise Refused(f"line {index + 1}", 1, 0, f"a table has at most {ROW_LIMIT} rows")
-        rules.append(read_rule(content, index))
-    return rules, False
+        else:
+            rules.append(read_rule(content, index))
+    return rules, listed, False
 
 
 def used(kind):
@@ -162,6 +199,19 @@ def check_row(rule, row, ended):
             raise Refused(f"row {row}", refusal, row, reason, ended)
 
 
+def list_fault(listed, rows):
+    """Why refusal 10 holds of a list for a table of so many rows, or None."""
+    if not 1 <= len(listed) <= LIST_LIMIT:
+        return f"a list has 1 to {LIST_LIMIT} rows, and here are {len(listed)}"
+    for row in listed:
+        if not 0 <= row < rows:
+            return f"row {row} is listed; rows are 0 to {rows - 1}"
+    for former, row in zip(listed, listed[1:]):
+        if row <= former:
+            return f"row {row} is listed after row {former}; a list rises"
+    return None
+
+
 def spans(rule):
     """How many spans a row that passes the check may need."""
     if not KINDS[rule.kind].spans:
@@ -192,9 +242,9 @@ def lower_rows(rule):
     return [value for value, use in ((rule.x, kind.x), (rule.y, kind.y)) if use == LOWER]
 
 
-def unreached(rules):
-    """The rows that the last row does not reach."""
-    reached = {len(rules) - 1}
+def unreached(rules, listed):
+    """The rows that no listed row reaches."""
+    reached = set(listed)
     for row in range(len(rules) - 1, -1, -1):
         if row in reached:
             reached.update(lower_rows(rules[row]))

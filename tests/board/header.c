@@ -35,7 +35,11 @@ static const uint32_t rules[] = {1, 0, 0, 0, 0, 0, 0, 0, 0, 0, 6, 1, 0, 2, 2};
 static const uint32_t bad_row[] = {1, 0, 0, 0, 0, 0, 0, 0, 0, 0, 6, 1, 2, 2, 2};
 static const uint32_t bad_limits[] = {1, 0, 0, 0, 0, 0, 0, 0, 0, 0, 6, 1, 0, 2, 1};
 
+/* The list of the last row alone. */
+static const uint32_t list[] = {2};
+
 #define NUMBERS (sizeof rules / sizeof rules[0])
+#define RULES rules, NUMBERS, list, 1
 #define NEED 4
 /* The word past the need. */
 #define PAST UINT64_C(0x5A5A5A5A5A5A5A5A)
@@ -62,7 +66,7 @@ static void start(void) {
     memset(&record, 0xFF, sizeof record);
     memset(store, 0xFF, sizeof store);
     store[NEED] = PAST;
-    SAME(muk_start(rules, NUMBERS, store, NEED + 1, &record), 0);
+    SAME(muk_start(RULES, store, NEED + 1, &record), 0);
     SAME(record.seen, 0);
     SAME(record.clock, 0);
     SAME(record.last, 0);
@@ -113,15 +117,16 @@ static void same_records(const muk_record *found, const muk_record *wanted) {
 }
 
 /* An event, a frame and their heartbeats that are refused alike and leave store and record. */
-static void refused(uint32_t number, uint32_t row, const uint32_t *table, uint64_t table_len, uint64_t store_len, uint64_t time, uint16_t counter) {
+static void refused(uint32_t number, uint32_t row, const uint32_t *table, uint64_t table_len, const uint32_t *rows, uint64_t rows_len, uint64_t store_len,
+                    uint64_t time, uint16_t counter) {
     int before = failures;
     muk_record record_before = record;
     uint64_t store_before[NEED + 1];
     memcpy(store_before, store, sizeof store);
-    SAME(muk_event(table, table_len, store, store_len, &record, time, MASK), refusal(number, row));
-    SAME(muk_event(table, table_len, store, store_len, &record, time, MASK | MUK_HEARTBEAT), refusal(number, row));
-    SAME(muk_frame(table, table_len, store, store_len, &record, counter, MASK), refusal(number, row));
-    SAME(muk_frame(table, table_len, store, store_len, &record, counter, MASK | MUK_HEARTBEAT), refusal(number, row));
+    SAME(muk_event(table, table_len, rows, rows_len, store, store_len, &record, time, MASK), refusal(number, row));
+    SAME(muk_event(table, table_len, rows, rows_len, store, store_len, &record, time, MASK | MUK_HEARTBEAT), refusal(number, row));
+    SAME(muk_frame(table, table_len, rows, rows_len, store, store_len, &record, counter, MASK), refusal(number, row));
+    SAME(muk_frame(table, table_len, rows, rows_len, store, store_len, &record, counter, MASK | MUK_HEARTBEAT), refusal(number, row));
     SAME(memcmp(store_before, store, sizeof store), 0);
     same_records(&record, &record_before);
     if (failures > before)
@@ -129,14 +134,20 @@ static void refused(uint32_t number, uint32_t row, const uint32_t *table, uint64
 }
 
 static void codes(void) {
-    SAME(MUK_VERSION, 2);
+    SAME(MUK_VERSION, 3);
     SAME(muk_version(), MUK_VERSION);
     SAME(MUK_HEARTBEAT, UINT32_C(1) << 31);
     SAME(MUK_MOVED, UINT32_C(1) << 31);
+    SAME(MUK_LIST, 16);
+    SAME(MUK_BAD_LIST, 10);
     SAME(muk_refusal(refusal(MUK_BAD_LIMITS, 63)), 3);
     SAME(muk_row(refusal(MUK_BAD_LIMITS, 63)), 63);
     SAME(muk_verdict(refusal(MUK_BAD_LIMITS, 63)), 0);
     SAME(muk_moved(refusal(MUK_BAD_LIMITS, 63)), 0);
+    SAME(muk_verdict(0xFFFF), 0xFFFF);
+    SAME(muk_refusal(0xFFFF), 0);
+    SAME(muk_moved(0xFFFF), 0);
+    SAME(muk_row(0xFFFF), 0);
     SAME(muk_row(1), 0);
     SAME(muk_moved(1), 0);
     SAME(muk_moved(0), 0);
@@ -166,49 +177,98 @@ static void checks(void) {
 
 static void starts(void) {
     static const muk_record zero;
-    static const uint32_t holds[] = {0, 0, 0, 0, 0};
+    static const uint32_t holds[] = {0, 0, 0, 0, 0}, first[] = {0};
     uint64_t odd[NEED] = {ODD64, ODD64, ODD64, ODD64};
     start();
-    SAME(muk_start(bad_limits, NUMBERS, odd, NEED, &record), refusal(MUK_BAD_LIMITS, 2));
+    SAME(muk_start(bad_limits, NUMBERS, list, 1, odd, NEED, &record), refusal(MUK_BAD_LIMITS, 2));
     same_records(&record, &zero);
     start();
-    SAME(muk_start(rules, NUMBERS, odd, NEED - 1, &record), refusal(MUK_SHORT_STORE, 0));
+    SAME(muk_start(RULES, odd, NEED - 1, &record), refusal(MUK_SHORT_STORE, 0));
     same_records(&record, &zero);
     SAME(odd[0], ODD64);
     SAME(odd[NEED - 1], ODD64);
-    SAME(muk_start(rules, NUMBERS, odd, HIGH, &record), 0);
+    SAME(muk_start(RULES, odd, HIGH, &record), 0);
     SAME(odd[NEED - 1], 0);
     /* A need of 0 is met by no store at all. */
-    SAME(muk_start(holds, 5, NULL, 0, &record), 0);
+    SAME(muk_start(holds, 5, first, 1, NULL, 0, &record), 0);
     SAME(record.rows, 1);
-    SAME(muk_event(holds, 5, NULL, 0, &record, 0, 0), 1);
+    SAME(muk_event(holds, 5, first, 1, NULL, 0, &record, 0, 0), 1);
 }
 
 static void events(void) {
     start();
-    SAME(muk_event(rules, NUMBERS, store, NEED + 1, &record, TIME, MASK), 0);
-    second("muk_event", muk_event(rules, NUMBERS, store, NEED + 1, &record, TIME + 2, MASK), TIME + 2);
-    SAME(muk_event(rules, NUMBERS, store, NEED, &record, TIME + 1, MASK), refusal(MUK_EARLIER, 0));
+    SAME(muk_event(RULES, store, NEED + 1, &record, TIME, MASK), 0);
+    second("muk_event", muk_event(RULES, store, NEED + 1, &record, TIME + 2, MASK), TIME + 2);
+    SAME(muk_event(RULES, store, NEED, &record, TIME + 1, MASK), refusal(MUK_EARLIER, 0));
     second("muk_event, then one that is refused", 1, TIME + 2);
 
     start();
-    SAME(muk_frame(rules, NUMBERS, store, NEED, &record, 65535, MASK), 0);
-    second("muk_frame", muk_frame(rules, NUMBERS, store, NEED, &record, 1, MASK), 65537);
+    SAME(muk_frame(RULES, store, NEED, &record, 65535, MASK), 0);
+    second("muk_frame", muk_frame(RULES, store, NEED, &record, 1, MASK), 65537);
 
-    refused(MUK_BAD_LENGTH, 0, NULL, 0, NEED, 65537, 1);
-    refused(MUK_BAD_LENGTH, 0, rules, HIGH * 5 + NUMBERS, NEED, 65537, 1);
-    refused(MUK_BAD_ROW, 2, bad_row, NUMBERS, NEED, 65537, 1);
-    refused(MUK_BAD_LIMITS, 2, bad_limits, NUMBERS, NEED, 65537, 1);
-    refused(MUK_SHORT_STORE, 0, rules, NUMBERS, NEED - 1, 65537, 1);
+    refused(MUK_BAD_LENGTH, 0, NULL, 0, list, 1, NEED, 65537, 1);
+    refused(MUK_BAD_LENGTH, 0, rules, HIGH * 5 + NUMBERS, list, 1, NEED, 65537, 1);
+    refused(MUK_BAD_ROW, 2, bad_row, NUMBERS, list, 1, NEED, 65537, 1);
+    refused(MUK_BAD_LIMITS, 2, bad_limits, NUMBERS, list, 1, NEED, 65537, 1);
+    refused(MUK_SHORT_STORE, 0, RULES, NEED - 1, 65537, 1);
     record.truths[MUK_ROWS - 1] = 255;
-    refused(MUK_UNSOUND, 0, rules, NUMBERS, NEED, 65537, 1);
+    refused(MUK_UNSOUND, 0, RULES, NEED, 65537, 1);
     record.truths[MUK_ROWS - 1] = 0;
     store[3]++;
-    refused(MUK_UNSOUND, 0, rules, NUMBERS, NEED, 65537, 1);
+    refused(MUK_UNSOUND, 0, RULES, NEED, 65537, 1);
 
     start();
-    SAME(muk_event(rules, NUMBERS, store, HIGH, &record, TIME_LIMIT, MASK), 0);
-    refused(MUK_LATE, 0, rules, NUMBERS, NEED, TIME_LIMIT + 1, 0);
+    SAME(muk_event(RULES, store, HIGH, &record, TIME_LIMIT, MASK), 0);
+    refused(MUK_LATE, 0, RULES, NEED, TIME_LIMIT + 1, 0);
+}
+
+/* Refused 10 for their list: a start, an event, a frame and their heartbeats, also where the record is not sound and the store too short; but after 3. */
+static void bad_list(const uint32_t *rows, uint64_t rows_len) {
+    static const muk_record zero;
+    start();
+    refused(MUK_BAD_LIST, 0, rules, NUMBERS, rows, rows_len, NEED, 1, 1);
+    store[0] = ODD64;
+    SAME(muk_start(rules, NUMBERS, rows, rows_len, store, NEED, &record), refusal(MUK_BAD_LIST, 0));
+    SAME(store[0], ODD64);
+    same_records(&record, &zero);
+    refused(MUK_BAD_LIST, 0, rules, NUMBERS, rows, rows_len, NEED - 1, 1, 1);
+    refused(MUK_BAD_LIMITS, 2, bad_limits, NUMBERS, rows, rows_len, NEED - 1, 1, 1);
+}
+
+static void lists(void) {
+    static const uint32_t all[] = {0, 1, 2}, one_and_two[] = {1, 2};
+    static const uint32_t falling[] = {1, 0}, equal[] = {1, 1}, over[] = {1, 3}, far_over[] = {UINT32_MAX}, cut[] = {UINT32_C(0x10001)};
+    uint32_t bits[5 * 17], rows[17], row;
+
+    /* Another list with each call: another verdict, the same record. */
+    start();
+    SAME(muk_event(rules, NUMBERS, all, 3, store, NEED + 1, &record, TIME, MASK), 3);
+    SAME(muk_event(rules, NUMBERS, one_and_two, 2, store, NEED + 1, &record, TIME, MASK), 1);
+    SAME(muk_event(rules, NUMBERS, all, 3, store, NEED + 1, &record, TIME, MASK | MUK_HEARTBEAT), MUK_MOVED);
+    SAME(muk_event(rules, NUMBERS, all, 3, store, NEED + 1, &record, TIME + 2, MASK), 7);
+    second("muk_event with lists", 1, TIME + 2);
+    SAME(muk_frame(rules, NUMBERS, one_and_two, 2, store, NEED + 1, &record, (uint16_t)(TIME + 2), 0), 3);
+
+    bad_list(NULL, 0);
+    bad_list(list, HIGH + 1);
+    bad_list(falling, 2);
+    bad_list(equal, 2);
+    bad_list(over, 2);
+    bad_list(far_over, 1);
+    bad_list(cut, 1);
+
+    /* Sixteen bits of a verdict; a seventeenth number is one too many. */
+    memset(bits, 0, sizeof bits);
+    for (row = 0; row < 17; row++) {
+        bits[5 * row] = 1;
+        bits[5 * row + 1] = rows[row] = row;
+    }
+    SAME(muk_start(bits, 5 * 17, rows, MUK_LIST, NULL, 0, &record), 0);
+    SAME(muk_event(bits, 5 * 17, rows, MUK_LIST, NULL, 0, &record, 0, 0x1A5A5), 0xA5A5);
+    SAME(muk_event(bits, 5 * 17, rows + 1, MUK_LIST, NULL, 0, &record, 0, 0x1A5A5), 0xD2D2);
+    SAME(muk_event(bits, 5 * 17, rows, MUK_LIST, NULL, 0, &record, 0, 0x1FFFF), 0xFFFF);
+    SAME(muk_event(bits, 5 * 17, rows, 17, NULL, 0, &record, 0, 0x1FFFF), refusal(MUK_BAD_LIST, 0));
+    SAME(muk_start(bits, 5 * 17, rows, 17, NULL, 0, &record), refusal(MUK_BAD_LIST, 0));
 }
 
 /* After a heartbeat: all but the clock and the spans of `row` is as it was before. There is one span, or none where its first is 0. */
@@ -231,49 +291,50 @@ static void moved(uint32_t code, const muk_record *before, uint64_t clock, int r
 static void heartbeats(void) {
     /* Bit 0 at the event before, 2 ms ago; bit 0 1 to 20 ms ago. */
     static const uint32_t previous[] = {1, 0, 0, 0, 0, 5, 0, 0, 2, 2}, once[] = {1, 0, 0, 0, 0, 7, 0, 0, 1, 20};
+    static const uint32_t second_row[] = {1};
     muk_record before;
 
     /* Before any event: a record with a clock and no event. */
     start();
     before = record;
-    moved(muk_frame(rules, NUMBERS, store, NEED, &record, 65534, MASK | MUK_HEARTBEAT), &before, 65534, 2, 0, 0);
-    moved(muk_event(rules, NUMBERS, store, NEED, &record, 65535, MASK | MUK_HEARTBEAT), &before, 65535, 2, 0, 0);
+    moved(muk_frame(RULES, store, NEED, &record, 65534, MASK | MUK_HEARTBEAT), &before, 65534, 2, 0, 0);
+    moved(muk_event(RULES, store, NEED, &record, 65535, MASK | MUK_HEARTBEAT), &before, 65535, 2, 0, 0);
     record.last = 1;
-    refused(MUK_UNSOUND, 0, rules, NUMBERS, NEED, 65535, 65535);
+    refused(MUK_UNSOUND, 0, RULES, NEED, 65535, 65535);
     record.last = 0;
 
     /* Between touches, whose times go on from the clock. */
-    SAME(muk_frame(rules, NUMBERS, store, NEED, &record, 1, MASK), 0);
+    SAME(muk_frame(RULES, store, NEED, &record, 1, MASK), 0);
     SAME(record.seen, 1);
     SAME(record.clock, 65537);
     SAME(record.last, 65537);
     before = record;
-    moved(muk_frame(rules, NUMBERS, store, NEED, &record, 2, MUK_HEARTBEAT), &before, 65538, 2, 65539, 65539);
+    moved(muk_frame(RULES, store, NEED, &record, 2, MUK_HEARTBEAT), &before, 65538, 2, 65539, 65539);
     record.last = 65539;
-    refused(MUK_UNSOUND, 0, rules, NUMBERS, NEED, 65539, 3);
+    refused(MUK_UNSOUND, 0, RULES, NEED, 65539, 3);
     record.last = 65537;
-    moved(muk_event(rules, NUMBERS, store, NEED, &record, 65539, MUK_HEARTBEAT), &before, 65539, 2, 65539, 65539);
-    SAME(muk_event(rules, NUMBERS, store, NEED, &record, 65538, MASK), refusal(MUK_EARLIER, 0));
-    SAME(muk_event(rules, NUMBERS, store, NEED, &record, 65538, MUK_HEARTBEAT), refusal(MUK_EARLIER, 0));
-    second("muk_frame after heartbeats", muk_frame(rules, NUMBERS, store, NEED, &record, 3, MASK), 65539);
+    moved(muk_event(RULES, store, NEED, &record, 65539, MUK_HEARTBEAT), &before, 65539, 2, 65539, 65539);
+    SAME(muk_event(RULES, store, NEED, &record, 65538, MASK), refusal(MUK_EARLIER, 0));
+    SAME(muk_event(RULES, store, NEED, &record, 65538, MUK_HEARTBEAT), refusal(MUK_EARLIER, 0));
+    second("muk_frame after heartbeats", muk_frame(RULES, store, NEED, &record, 3, MASK), 65539);
     before = record;
-    moved(muk_frame(rules, NUMBERS, store, NEED, &record, 4, MUK_HEARTBEAT), &before, 65540, 2, 65541, 65541);
-    moved(muk_frame(rules, NUMBERS, store, NEED, &record, 6, MUK_HEARTBEAT), &before, 65542, 2, 0, 0);
+    moved(muk_frame(RULES, store, NEED, &record, 4, MUK_HEARTBEAT), &before, 65540, 2, 65541, 65541);
+    moved(muk_frame(RULES, store, NEED, &record, 6, MUK_HEARTBEAT), &before, 65542, 2, 0, 0);
 
     /* A span that is clipped until it ends. */
-    SAME(muk_start(once, 10, store, NEED, &record), 0);
-    SAME(muk_event(once, 10, store, NEED, &record, 10, MASK), 0);
+    SAME(muk_start(once, 10, second_row, 1, store, NEED, &record), 0);
+    SAME(muk_event(once, 10, second_row, 1, store, NEED, &record, 10, MASK), 0);
     before = record;
-    moved(muk_event(once, 10, store, NEED, &record, 10, MUK_HEARTBEAT), &before, 10, 1, 11, 30);
-    moved(muk_event(once, 10, store, NEED, &record, 15, MUK_HEARTBEAT), &before, 15, 1, 15, 30);
-    moved(muk_event(once, 10, store, NEED, &record, 30, MUK_HEARTBEAT), &before, 30, 1, 30, 30);
-    moved(muk_event(once, 10, store, NEED, &record, 31, MUK_HEARTBEAT), &before, 31, 1, 0, 0);
+    moved(muk_event(once, 10, second_row, 1, store, NEED, &record, 10, MUK_HEARTBEAT), &before, 10, 1, 11, 30);
+    moved(muk_event(once, 10, second_row, 1, store, NEED, &record, 15, MUK_HEARTBEAT), &before, 15, 1, 15, 30);
+    moved(muk_event(once, 10, second_row, 1, store, NEED, &record, 30, MUK_HEARTBEAT), &before, 30, 1, 30, 30);
+    moved(muk_event(once, 10, second_row, 1, store, NEED, &record, 31, MUK_HEARTBEAT), &before, 31, 1, 0, 0);
 
     /* The event before is 2 ms old, the heartbeat 1 ms. */
-    SAME(muk_start(previous, 10, NULL, 0, &record), 0);
-    SAME(muk_event(previous, 10, NULL, 0, &record, 10, MASK), 0);
-    SAME(muk_event(previous, 10, NULL, 0, &record, 11, MUK_HEARTBEAT), MUK_MOVED);
-    SAME(muk_event(previous, 10, NULL, 0, &record, 12, 0), 1);
+    SAME(muk_start(previous, 10, second_row, 1, NULL, 0, &record), 0);
+    SAME(muk_event(previous, 10, second_row, 1, NULL, 0, &record, 10, MASK), 0);
+    SAME(muk_event(previous, 10, second_row, 1, NULL, 0, &record, 11, MUK_HEARTBEAT), MUK_MOVED);
+    SAME(muk_event(previous, 10, second_row, 1, NULL, 0, &record, 12, 0), 1);
 }
 
 static void times(void) {
@@ -320,6 +381,7 @@ int main(void) {
     checks();
     starts();
     events();
+    lists();
     heartbeats();
     times();
     lines();

@@ -16,6 +16,8 @@ static unsigned long calls;
 
 static uint32_t table[LONGEST_ROW];
 static uint64_t table_len;
+static uint32_t list[LONGEST_ROW];
+static uint64_t list_len;
 static uint64_t store[LONGEST_ROW + 1];
 static uint64_t store_len;
 static uint8_t text[LONGEST_ROW];
@@ -66,6 +68,14 @@ static void read_table(void) {
     table_len = length();
     for (i = 0; i < table_len; i++)
         table[i] = (uint32_t)number();
+}
+
+static void read_rules(void) {
+    uint64_t i;
+    read_table();
+    list_len = length();
+    for (i = 0; i < list_len; i++)
+        list[i] = (uint32_t)number();
 }
 
 static void read_text(void) {
@@ -121,31 +131,31 @@ static void check(void) {
 }
 
 static void start(void) {
-    read_table();
+    read_rules();
     read_kept();
-    same("the code", muk_start(LENT(table), LENT(store), &record));
+    same("the code", muk_start(LENT(table), LENT(list), LENT(store), &record));
     same_kept();
 }
 
 static void event(void) {
     uint64_t time;
     uint32_t mask;
-    read_table();
+    read_rules();
     time = number();
     mask = (uint32_t)number();
     read_kept();
-    same("the code", muk_event(LENT(table), LENT(store), &record, time, mask));
+    same("the code", muk_event(LENT(table), LENT(list), LENT(store), &record, time, mask));
     same_kept();
 }
 
 static void frame(void) {
     uint16_t counter;
     uint32_t mask;
-    read_table();
+    read_rules();
     counter = (uint16_t)number();
     mask = (uint32_t)number();
     read_kept();
-    same("the code", muk_frame(LENT(table), LENT(store), &record, counter, mask));
+    same("the code", muk_frame(LENT(table), LENT(list), LENT(store), &record, counter, mask));
     same_kept();
 }
 

@@ -1,5 +1,6 @@
 /* The time of a frame: reads a capture on standard input, as ./judge does, and judges its frames over and over. Of several runs the fastest counts. */
 #include <stdio.h>
+#include <string.h>
 #include <time.h>
 
 #include "muktrashi.h"
@@ -9,24 +10,42 @@
 #define TEXT 65536
 #define STORE 8192
 
-static uint32_t rules[5 * MUK_ROWS];
-static uint64_t numbers;
+static uint32_t rules[5 * MUK_ROWS], list[MUK_LIST];
+static uint64_t numbers, listed;
 static uint8_t text[TEXT];
 static uint64_t text_len;
 static uint64_t store[STORE];
 static muk_record record;
 
-/* The rule lines up to the empty one, and the text of frames behind it. */
+static int read_rule(const char *line) {
+    unsigned rule[5];
+    int i;
+    if (numbers == 5 * MUK_ROWS || sscanf(line, "%2x%2x%2x%8x%8x", rule, rule + 1, rule + 2, rule + 3, rule + 4) != 5)
+        return 0;
+    for (i = 0; i < 5; i++)
+        rules[numbers++] = rule[i];
+    return 1;
+}
+
+/* The row numbers between AA and the sum. */
+static int read_list(const char *line) {
+    unsigned row;
+    for (line += 2; strlen(line) > strlen("00\n"); line += 2) {
+        if (listed == MUK_LIST || sscanf(line, "%2x", &row) != 1)
+            return 0;
+        list[listed++] = row;
+    }
+    return 1;
+}
+
+/* The rule lines and the list up to the empty line, and the text of frames behind it. Without a list the last row is judged. */
 static int read_capture(void) {
     char line[64];
-    while (fgets(line, sizeof line, stdin) != NULL && line[0] != '\n') {
-        unsigned rule[5];
-        int i;
-        if (numbers == 5 * MUK_ROWS || sscanf(line, "%2x%2x%2x%8x%8x", rule, rule + 1, rule + 2, rule + 3, rule + 4) != 5)
+    while (fgets(line, sizeof line, stdin) != NULL && line[0] != '\n')
+        if (strncmp(line, "AA", 2) == 0 ? !read_list(line) : !read_rule(line))
             return 0;
-        for (i = 0; i < 5; i++)
-            rules[numbers++] = rule[i];
-    }
+    if (listed == 0)
+        list[listed++] = (uint32_t)(numbers / 5) - 1;
     text_len = fread(text, 1, TEXT, stdin);
     return text_len > 0;
 }
@@ -41,10 +60,10 @@ static double run(unsigned long *frames, unsigned long *yes) {
         uint16_t counter;
         uint32_t mask;
         while (muk_read_frame(text, text_len, &place, &counter, &mask) == MUK_FRAME) {
-            uint32_t code = muk_frame(rules, numbers, store, STORE, &record, counter, mask);
+            uint32_t code = muk_frame(rules, numbers, list, listed, store, STORE, &record, counter, mask);
             if (muk_refusal(code) != 0)
                 return 0;
-            *yes += muk_verdict(code);
+            *yes += muk_verdict(code) != 0;
             ++*frames;
         }
     }
@@ -55,7 +74,7 @@ int main(void) {
     unsigned long frames, yes;
     double fastest = 0;
     int i;
-    if (!read_capture() || muk_start(rules, numbers, store, STORE, &record) != 0) {
+    if (!read_capture() || muk_start(rules, numbers, list, listed, store, STORE, &record) != 0) {
         printf("speed.c: this is no capture with rules that start\n");
         return 1;
     }

@@ -1,6 +1,6 @@
 /* The deepest stack of each function of the library, in bytes, its arguments and its return address among them: the stack is painted, a call is made,
  * and where the paint is gone the call has been. The calls are good and refused ones, events and heartbeats, over a table of 64 rows of every kind whose
- * spans fill their stretches. */
+ * spans fill their stretches, and a list of 16. */
 #include <stdio.h>
 
 #include "muktrashi.h"
@@ -12,10 +12,10 @@
 #define EVENTS 100
 #define NO_END UINT32_C(4294967295)
 
-static uint32_t rules[NUMBERS];
+static uint32_t rules[NUMBERS], list[MUK_LIST];
 static uint64_t store[STORE];
 static muk_record record;
-static uint64_t table_len = NUMBERS, store_len = STORE;
+static uint64_t table_len = NUMBERS, list_len = MUK_LIST, store_len = STORE;
 
 /* What one call is given, and where it writes. */
 static uint64_t when, need, place, text_len;
@@ -26,9 +26,9 @@ static uint32_t code;
 
 static void version(void) { code = muk_version(); }
 static void check(void) { code = muk_check(rules, table_len, &rows, &need); }
-static void start(void) { code = muk_start(rules, table_len, store, store_len, &record); }
-static void event(void) { code = muk_event(rules, table_len, store, store_len, &record, when, mask); }
-static void frame(void) { code = muk_frame(rules, table_len, store, store_len, &record, counter, mask); }
+static void start(void) { code = muk_start(rules, table_len, list, list_len, store, store_len, &record); }
+static void event(void) { code = muk_event(rules, table_len, list, list_len, store, store_len, &record, when, mask); }
+static void frame(void) { code = muk_frame(rules, table_len, list, list_len, store, store_len, &record, counter, mask); }
 static void frame_time(void) { code = muk_frame_time(when, counter, &need); }
 static void read_frame(void) { code = muk_read_frame(text, text_len, &place, &counter, &mask); }
 
@@ -108,6 +108,8 @@ static void table(void) {
             row(at, 8, 2, 0, 4, 4);
         }
     }
+    for (at = 0; at < MUK_LIST; at++)
+        list[at] = (uint32_t)(MUK_ROWS - MUK_LIST + at);
 }
 
 /* The refusals of an event or a frame. */
@@ -115,6 +117,9 @@ static void refused(int function) {
     table_len = 0;
     call(function);
     table_len = NUMBERS;
+    list_len = 0;
+    call(function);
+    list_len = MUK_LIST;
     store_len = 1;
     call(function);
     store_len = STORE;

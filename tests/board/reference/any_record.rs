@@ -1,8 +1,8 @@
-//! The second reference: soundness, the one-event rules and the heartbeat written out, for any table, store and record, reached or not.
+//! The second reference: soundness, the one-event rules and the heartbeat written out, for any table, list, store and record, reached or not.
 
 use crate::board::{Call, Checked, Kept, Record, HEARTBEAT, MOVED};
 use crate::lines::time_of;
-use crate::table::{self, Formula, Interval, Refusal, ROW_LIMIT, TIME_LIMIT};
+use crate::table::{self, Formula, Interval, Refusal, Rules, ROW_LIMIT, TIME_LIMIT};
 
 /// The stored last of a span without end.
 pub const NO_LAST: u64 = 18_446_744_073_709_551_615;
@@ -98,7 +98,7 @@ fn update(interval: Interval, words: &mut [u64], count: u32, t: u64, kept: bool,
 }
 
 /// One event, rows rising, on a sound record.
-fn step(rows: &[Formula], store: &mut [u64], record: &mut Record, t: u64, mask: u32) -> bool {
+fn step(rows: &[Formula], store: &mut [u64], record: &mut Record, t: u64, mask: u32) {
     let before = *record;
     let mut truths = [false; ROW_LIMIT];
     let mut stretches = stretches(rows).into_iter();
@@ -126,7 +126,11 @@ fn step(rows: &[Formula], store: &mut [u64], record: &mut Record, t: u64, mask: 
     record.seen = 1;
     record.clock = t;
     record.last = t;
-    truths[rows.len() - 1]
+}
+
+/// The truths that the record has of the listed rows, the first as the lowest bit.
+fn verdict(list: &[u32], record: &Record) -> u32 {
+    (0..).zip(list).map(|(k, &row)| (record.truths[row as usize] as u32) << k).sum()
 }
 
 /// A heartbeat at t, on a sound record: spans are clipped and the clock moves.
@@ -139,8 +143,8 @@ fn beat(rows: &[Formula], store: &mut [u64], record: &mut Record, t: u64) {
     record.clock = t;
 }
 
-pub fn check(rules: &[u32], checked: &mut Checked) -> u32 {
-    let rows = match table::check(rules) {
+pub fn check(table: &[u32], checked: &mut Checked) -> u32 {
+    let rows = match table::check(table) {
         Err(refusal) => return refusal.code(),
         Ok(rows) => rows,
     };
@@ -148,7 +152,7 @@ pub fn check(rules: &[u32], checked: &mut Checked) -> u32 {
     0
 }
 
-pub fn start(rules: &[u32], kept: &mut Kept) -> u32 {
+pub fn start(rules: Rules, kept: &mut Kept) -> u32 {
     let (store, record) = kept.lent();
     *record = Record::ZERO;
     let rows = match table::ready(rules, store.len()) {
@@ -160,7 +164,7 @@ pub fn start(rules: &[u32], kept: &mut Kept) -> u32 {
     0
 }
 
-pub fn call((rules, call): (&[u32], Call), kept: &mut Kept) -> u32 {
+pub fn call((rules, call): (Rules, Call), kept: &mut Kept) -> u32 {
     let (store, record) = kept.lent();
     let rows = match table::ready(rules, store.len()) {
         Err(refusal) => return refusal.code(),
@@ -183,5 +187,6 @@ pub fn call((rules, call): (&[u32], Call), kept: &mut Kept) -> u32 {
         beat(&rows, store, record, time);
         return MOVED;
     }
-    step(&rows, store, record, time, mask) as u32
+    step(&rows, store, record, time, mask);
+    verdict(rules.list, record)
 }

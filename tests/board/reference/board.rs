@@ -1,7 +1,7 @@
 //! The library's functions for C, as include/muktrashi.h declares them, with each call counted. Each is a function of what it reads and of what it may
 //! write, and gives the code; the references have the same functions.
 
-use crate::table::ROW_LIMIT;
+use crate::table::{Rules, ROW_LIMIT};
 use std::sync::atomic::{AtomicU64, Ordering};
 
 #[repr(C)]
@@ -75,9 +75,29 @@ pub enum Call {
 
 extern "C" {
     fn muk_check(table: *const u32, table_len: u64, rows: *mut u32, need: *mut u64) -> u32;
-    fn muk_start(table: *const u32, table_len: u64, store: *mut u64, store_len: u64, record: *mut Record) -> u32;
-    fn muk_event(table: *const u32, table_len: u64, store: *mut u64, store_len: u64, record: *mut Record, time: u64, mask: u32) -> u32;
-    fn muk_frame(table: *const u32, table_len: u64, store: *mut u64, store_len: u64, record: *mut Record, counter: u16, mask: u32) -> u32;
+    fn muk_start(table: *const u32, table_len: u64, list: *const u32, list_len: u64, store: *mut u64, store_len: u64, record: *mut Record) -> u32;
+    fn muk_event(
+        table: *const u32,
+        table_len: u64,
+        list: *const u32,
+        list_len: u64,
+        store: *mut u64,
+        store_len: u64,
+        record: *mut Record,
+        time: u64,
+        mask: u32,
+    ) -> u32;
+    fn muk_frame(
+        table: *const u32,
+        table_len: u64,
+        list: *const u32,
+        list_len: u64,
+        store: *mut u64,
+        store_len: u64,
+        record: *mut Record,
+        counter: u16,
+        mask: u32,
+    ) -> u32;
     fn muk_frame_time(clock: u64, counter: u16, time: *mut u64) -> u32;
     fn muk_read_frame(text: *const u8, text_len: u64, place: *mut u64, counter: *mut u16, mask: *mut u32) -> u32;
 }
@@ -111,19 +131,19 @@ pub fn check(table: &[u32], checked: &mut Checked) -> u32 {
     unsafe { muk_check(table, numbers, &mut checked.rows, &mut checked.need) }
 }
 
-pub fn start(table: &[u32], kept: &mut Kept) -> u32 {
+pub fn start(rules: Rules, kept: &mut Kept) -> u32 {
     count();
-    let ((table, numbers), (store, words, record)) = (lent(table), lent_to_write(kept));
-    unsafe { muk_start(table, numbers, store, words, record) }
+    let ((table, numbers), (list, listed), (store, words, record)) = (lent(rules.table), lent(rules.list), lent_to_write(kept));
+    unsafe { muk_start(table, numbers, list, listed, store, words, record) }
 }
 
-pub fn call((table, call): (&[u32], Call), kept: &mut Kept) -> u32 {
+pub fn call((rules, call): (Rules, Call), kept: &mut Kept) -> u32 {
     count();
-    let ((table, numbers), (store, words, record)) = (lent(table), lent_to_write(kept));
+    let ((table, numbers), (list, listed), (store, words, record)) = (lent(rules.table), lent(rules.list), lent_to_write(kept));
     unsafe {
         match call {
-            Call::Event { time, mask } => muk_event(table, numbers, store, words, record, time, mask),
-            Call::Frame { counter, mask } => muk_frame(table, numbers, store, words, record, counter, mask),
+            Call::Event { time, mask } => muk_event(table, numbers, list, listed, store, words, record, time, mask),
+            Call::Frame { counter, mask } => muk_frame(table, numbers, list, listed, store, words, record, counter, mask),
         }
     }
 }

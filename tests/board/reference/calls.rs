@@ -3,6 +3,7 @@
 //! in groups of seven bits, lowest first, with 128 added to all but the last. 0 for the function ends the file; the count of calls follows.
 
 use crate::board::{Call, Checked, Kept, Line};
+use crate::table::Rules;
 use std::fs::File;
 use std::io::{BufWriter, Write};
 
@@ -65,6 +66,13 @@ impl<A: Written, B: Written> Written for (A, B) {
     fn to(&self, entry: &mut Entry) {
         self.0.to(entry);
         self.1.to(entry);
+    }
+}
+
+impl Written for Rules<'_> {
+    fn to(&self, entry: &mut Entry) {
+        self.table.to(entry);
+        self.list.to(entry);
     }
 }
 

@@ -1,8 +1,8 @@
-//! Inputs, from a fixed seed: tables, times, masks, heartbeats, sound records that no stream reaches, texts, and damage to each.
+//! Inputs, from a fixed seed: tables, lists, times, masks, heartbeats, sound records that no stream reaches, texts, and damage to each.
 
 use crate::any_record::{stretches, NO_LAST};
 use crate::board::{Call, Checked, Line, Record, HEARTBEAT};
-use crate::table::{self, Formula, Interval, BITS, KINDS, LONGEST, NO_END, ROW_LIMIT, TIME_LIMIT};
+use crate::table::{self, Formula, Interval, BITS, KINDS, LIST_LIMIT, LONGEST, NO_END, ROW_LIMIT, TIME_LIMIT};
 
 /// A generator of numbers (splitmix64).
 pub struct Random(u64);
@@ -104,6 +104,50 @@ pub fn damage_table(random: &mut Random, table: &mut Vec<u32>) {
         5 => table[place] = random.word() as u32,
         6 => table[place] = (place / 5) as u32,
         _ => table[place] = table[place].wrapping_add(random.pick(&[1, u32::MAX])),
+    }
+}
+
+/// The row count of a table, if its length passes.
+fn row_count(table: &[u32]) -> usize {
+    (table.len() / 5).clamp(1, ROW_LIMIT)
+}
+
+/// So many of the numbers below `rows`, rising.
+fn numbers_below(random: &mut Random, rows: usize, count: usize) -> Vec<u32> {
+    let mut numbers: Vec<u32> = (0..rows as u32).collect();
+    while numbers.len() > count {
+        numbers.remove(random.below(numbers.len() as u64) as usize);
+    }
+    numbers
+}
+
+/// A list that passes for a table that passes; often of one row, and of the most that there can be.
+pub fn list(random: &mut Random, table: &[u32]) -> Vec<u32> {
+    let rows = row_count(table);
+    let most = rows.min(LIST_LIMIT);
+    let any = random.between(1, most as u64) as usize;
+    let count = random.pick(&[1, any, any, most]);
+    numbers_below(random, rows, count)
+}
+
+/// One number of a list changed, or its length: no number, too many, equal neighbours, not rising, at the row count and over it.
+pub fn damage_list(random: &mut Random, list: &mut Vec<u32>, table: &[u32]) {
+    let rows = row_count(table);
+    let (place, end) = (random.below(list.len() as u64) as usize, list.len() - 1);
+    let (number, last, any) = (list[place], list[end], random.word() as u32);
+    match random.below(8) {
+        0 => list.clear(),
+        1 => {
+            let count = LIST_LIMIT + random.pick(&[1, 1, 2, 17]);
+            *list = numbers_below(random, rows.max(count), count);
+        }
+        2 => list.insert(place, number),
+        3 => list.swap(place, end),
+        4 => list[end] = rows as u32,
+        // Narrower numbers would read some of these as rows.
+        5 => list[end] = random.pick(&[rows as u32 + 1, last | 1 << 8, last | 1 << 16, last | 1 << 31, u32::MAX - 1, u32::MAX]),
+        6 => list[place] = number.wrapping_add(random.pick(&[1, u32::MAX])),
+        _ => list[place] = any,
     }
 }
 

@@ -1,6 +1,6 @@
 //! Compares the library's functions for C with the two references, over a million calls, from a fixed seed: what each call answers, and all that it may
-//! write as it is left. Ends at the first difference, which it prints with its input, or with the count of calls. Both references read a table by `table`
-//! and time a frame by `lines::time_of`. Given the name of a file, it writes some of the calls there; `calls` tells how.
+//! write as it is left. Ends at the first difference, which it prints with its input, or with the count of calls. Both references read a table and a list by
+//! `table` and time a frame by `lines::time_of`. Given the name of a file, it writes some of the calls there; `calls` tells how.
 
 mod any_record;
 mod board;
@@ -15,7 +15,7 @@ use calls::{Calls, Function, Written};
 use inputs::Random;
 use meaning::History;
 use std::fmt::Debug;
-use table::TIME_LIMIT;
+use table::{Rules, TIME_LIMIT};
 
 const SEED: u64 = 20_031_118;
 const STREAMS: u64 = 10_000;
@@ -50,43 +50,49 @@ fn compare<G: Written + Copy + Debug, L: Written + Clone + PartialEq + Debug>(
     code
 }
 
-fn compare_start(calls: &mut Calls, table: &[u32], kept: &mut Kept) {
-    compare(calls, Function::Start, table, kept, board::start, any_record::start);
+fn compare_start(calls: &mut Calls, rules: Rules, kept: &mut Kept) {
+    compare(calls, Function::Start, rules, kept, board::start, any_record::start);
 }
 
-fn compare_call(calls: &mut Calls, table: &[u32], kept: &mut Kept, call: Call) -> u32 {
+fn compare_call(calls: &mut Calls, rules: Rules, kept: &mut Kept, call: Call) -> u32 {
     let function = match call {
         Call::Event { .. } => Function::Event,
         Call::Frame { .. } => Function::Frame,
     };
-    compare(calls, function, (table, call), kept, board::call, any_record::call)
+    compare(calls, function, (rules, call), kept, board::call, any_record::call)
 }
 
-/// Streams from a start: both references, after the start and after each call.
+/// Streams from a start: both references, after the start and after each call. Some calls have another list than the start, which passes or does not.
 fn streams(random: &mut Random, calls: &mut Calls) {
     for _ in 0..STREAMS {
         let table = inputs::table(random);
         let rows = table::check(&table).expect("a table that passes");
         let need = table::need(&rows) as usize;
         let size = need as u64 + random.below(4);
+        let listed = inputs::list(random, &table);
         let mut kept = Kept::new(inputs::words(random, size), inputs::any_record(random));
-        compare_start(calls, &table, &mut kept);
+        compare_start(calls, Rules { table: &table, list: &listed }, &mut kept);
         let mut history = History::start(rows);
         let mut clock = inputs::base(random);
         for _ in 0..STREAM_CALLS {
             let call = inputs::call(random, clock);
+            let mut list = if random.once_in(8) { inputs::list(random, &table) } else { listed.clone() };
+            if random.once_in(24) {
+                inputs::damage_list(random, &mut list, &table);
+            }
+            let rules = Rules { table: &table, list: &list };
             let before = kept.clone();
-            let code = compare_call(calls, &table, &mut kept, call);
-            let meant_code = history.call(call);
+            let code = compare_call(calls, rules, &mut kept, call);
+            let meant_code = history.call(&list, call);
             let (record, words) = history.record_and_words();
             let left = (code, kept.record, &kept.store()[..need]);
-            same(&"by the meaning, a call", &(&table, &before, call), &left, &(meant_code, record, &words[..]));
+            same(&"by the meaning, a call", &(rules, &before, call), &left, &(meant_code, record, &words[..]));
             clock = if record.clock > 0 { record.clock } else { clock };
         }
     }
 }
 
-/// Records that are sound but perhaps not reached, and damaged records, stores and tables.
+/// Records that are sound but perhaps not reached, and damaged records, stores, tables and lists.
 fn unreached(random: &mut Random, calls: &mut Calls) {
     for _ in 0..UNREACHED {
         let mut table = inputs::table(random);
@@ -101,15 +107,19 @@ fn unreached(random: &mut Random, calls: &mut Calls) {
             5 => table = inputs::table(random),
             _ => {}
         }
+        let mut list = inputs::list(random, &table);
+        if random.once_in(6) {
+            inputs::damage_list(random, &mut list, &table);
+        }
         let mut kept = Kept::new(store, record);
         for _ in 0..UNREACHED_CALLS {
             let call = inputs::call(random, clock.max(kept.record.clock));
-            compare_call(calls, &table, &mut kept, call);
+            compare_call(calls, Rules { table: &table, list: &list }, &mut kept, call);
         }
     }
 }
 
-/// Checks and starts of tables, good and damaged, on stores that are long enough and too short.
+/// Checks and starts of tables, good and damaged, with lists that pass and do not, on stores that are long enough and too short.
 fn tables(random: &mut Random, calls: &mut Calls) {
     for _ in 0..TABLES {
         let mut table = inputs::table(random);
@@ -123,7 +133,11 @@ fn tables(random: &mut Random, calls: &mut Calls) {
         let need = if code == 0 { checked.need.min(2_000) } else { 0 };
         let size = need + random.below(3);
         let words = inputs::words(random, size.saturating_sub(1));
-        compare_start(calls, &table, &mut Kept::new(words, inputs::any_record(random)));
+        let mut list = inputs::list(random, &table);
+        if random.once_in(3) {
+            inputs::damage_list(random, &mut list, &table);
+        }
+        compare_start(calls, Rules { table: &table, list: &list }, &mut Kept::new(words, inputs::any_record(random)));
     }
 }
 

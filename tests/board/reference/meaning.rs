@@ -3,7 +3,7 @@
 
 use crate::board::{Call, Record, HEARTBEAT, MOVED};
 use crate::lines::time_of;
-use crate::table::{Formula, Interval, Refusal, TIME_LIMIT};
+use crate::table::{check_list, Formula, Interval, Refusal, TIME_LIMIT};
 
 struct Event {
     time: u64,
@@ -22,7 +22,11 @@ impl History {
         History { rows, events: Vec::new(), clock: 0 }
     }
 
-    pub fn call(&mut self, call: Call) -> u32 {
+    /// The answer to a call: its verdict tells of the rows that its list names.
+    pub fn call(&mut self, list: &[u32], call: Call) -> u32 {
+        if let Err(refusal) = check_list(list, &self.rows) {
+            return refusal.code();
+        }
         let (time, mask) = match call {
             Call::Event { time, mask } => (time, mask),
             Call::Frame { counter, mask } => (time_of(self.clock, counter), mask),
@@ -42,7 +46,18 @@ impl History {
             let truth = self.holds(row, mask);
             self.events.last_mut().unwrap().truths.push(truth);
         }
-        *self.events.last().unwrap().truths.last().unwrap() as u32
+        self.verdict(list)
+    }
+
+    /// Bit k is the truth of the k-th listed row at the newest event.
+    fn verdict(&self, list: &[u32]) -> u32 {
+        let truths = &self.events.last().unwrap().truths;
+        let mut verdict = 0;
+        for (row, &truth) in truths.iter().enumerate() {
+            let listed = list.iter().position(|&listed| listed as usize == row);
+            verdict |= listed.map_or(0, |bit| (truth as u32) << bit);
+        }
+        verdict
     }
 
     /// Whether a row holds at the newest event, at which all lower rows are known.

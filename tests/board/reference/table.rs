@@ -1,5 +1,5 @@
 //! The rule table of document 01, with the kinds 7 and 8 of document 02, E1, and without bit 31 (E2): the limits, the formula of each row, the check,
-//! spans and need.
+//! spans and need; and the list of the rows that are judged (E4).
 
 pub const ROW_LIMIT: usize = 64;
 pub const KINDS: u32 = 9;
@@ -8,8 +8,17 @@ pub const BITS: u32 = 31;
 pub const LONGEST: u32 = 86_400_000;
 pub const NO_END: u32 = 4_294_967_295;
 pub const TIME_LIMIT: u64 = 281_474_976_710_655;
+/// The most rows that a list names.
+pub const LIST_LIMIT: usize = 16;
 
 const NUMBERS: usize = 5;
+
+/// What start and every call are lent to read: the table, and the list of the rows that are judged.
+#[derive(Clone, Copy, Debug)]
+pub struct Rules<'a> {
+    pub table: &'a [u32],
+    pub list: &'a [u32],
+}
 
 /// A refusal by its number, and the row that it gives or 0.
 #[derive(Clone, Copy, PartialEq, Debug)]
@@ -130,9 +139,20 @@ pub fn need(rows: &[Formula]) -> u64 {
     rows.iter().filter_map(Formula::stretch).map(|interval| 2 * interval.spans()).sum()
 }
 
-/// Refusals 1 to 4, or the rows.
-pub fn ready(table: &[u32], store: usize) -> Result<Vec<Formula>, Refusal> {
-    let rows = check(table)?;
+/// "1 to 16 row numbers, strictly rising, each within the table", or refusal 10.
+pub fn check_list(list: &[u32], rows: &[Formula]) -> Result<(), Refusal> {
+    let names_rows = list.iter().all(|&row| rows.get(row as usize).is_some());
+    let rising = list.windows(2).all(|pair| pair[0] < pair[1]);
+    if list.is_empty() || list.len() > LIST_LIMIT || !rising || !names_rows {
+        return Err(Refusal::of(10));
+    }
+    Ok(())
+}
+
+/// Refusals 1 to 3, 10 and 4, or the rows.
+pub fn ready(rules: Rules, store: usize) -> Result<Vec<Formula>, Refusal> {
+    let rows = check(rules.table)?;
+    check_list(rules.list, &rows)?;
     if (store as u64) < need(&rows) {
         return Err(Refusal::of(4));
     }
