@@ -1,6 +1,6 @@
 /* Muktrashi: a proved monitor for a pool's touch-pad board. docs/FIRMWARE.md tells how to build the library for a processor and what a caller sees to.
  *
- * A rule table in past-time metric temporal logic, lent as a row of 32-bit numbers, five per row: kind, x, y, a, b; 1 to 64 rows, counted from 0. A list
+ * A rule table in past-time metric temporal logic, lent as a row of 32-bit numbers, five per row: kind, x, y, a, b; 1 to 256 rows, counted from 0. A list
  * of the rows that are judged, lent as a row of 32-bit row numbers; 1 to 16, strictly rising. A store, lent as a row of 64-bit words. A record, which the
  * caller keeps. docs/RULES.md tells how to write a rule.
  *
@@ -27,14 +27,15 @@ extern "C" {
 #endif
 
 /* Raised whenever the record, a code or what a function takes changes; muk_version answers the library's. */
-#define MUK_VERSION 3
+#define MUK_VERSION 4
 
-#define MUK_ROWS 64
+/* The most rows that a table has. */
+#define MUK_ROWS 256
 /* The most row numbers that a list has. */
 #define MUK_LIST 16
 
-/* `seen` and `truths` are 0 or 1; a record with any other byte there is not sound (7). Padding between fields is nobody's: compare records field by
- * field. */
+/* 1,312 bytes, whatever the table: entries past its rows are 0. `seen` and `truths` are 0 or 1; a record with any other byte there is not sound (7). Padding
+ * between fields is nobody's: compare records field by field. */
 typedef struct {
     uint8_t seen;              /* whether an event was seen; a heartbeat is none */
     uint64_t clock;            /* the time of the last accepted call, heartbeats too; 0 before any */
@@ -51,13 +52,13 @@ typedef struct {
 #define MUK_HOLDS(fact) _Static_assert(fact, "the library has another layout of muk_record")
 #endif
 #ifdef MUK_HOLDS
-MUK_HOLDS(sizeof(muk_record) == 352);
+MUK_HOLDS(sizeof(muk_record) == 1312);
 MUK_HOLDS(offsetof(muk_record, seen) == 0);
 MUK_HOLDS(offsetof(muk_record, clock) == 8);
 MUK_HOLDS(offsetof(muk_record, last) == 16);
 MUK_HOLDS(offsetof(muk_record, rows) == 24);
 MUK_HOLDS(offsetof(muk_record, truths) == 28);
-MUK_HOLDS(offsetof(muk_record, counts) == 92);
+MUK_HOLDS(offsetof(muk_record, counts) == 284);
 #undef MUK_HOLDS
 #endif
 
@@ -65,7 +66,7 @@ MUK_HOLDS(offsetof(muk_record, counts) == 92);
  * the store, every field of the record and every single number as it was, but for two: a refused start leaves an all-zero record, and a refused line moves
  * the place. */
 enum {
-    MUK_BAD_LENGTH = 1,  /* the table's length is not a multiple of 5, or its rows are not 1 to 64 */
+    MUK_BAD_LENGTH = 1,  /* the table's length is not a multiple of 5, or its rows are not 1 to 256 */
     MUK_BAD_ROW = 2,     /* a row: kind over 8, x or y not lower, bit over 30, unused number not 0 */
     MUK_BAD_LIMITS = 3,  /* a row passes 2, but a is over 86,400,000, or b is not a to 86,400,000 or 4,294,967,295 ("no end") */
     MUK_BAD_LIST = 10,   /* the list is not 1 to 16 numbers, strictly rising, each below the table's row count */

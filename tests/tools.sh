@@ -67,7 +67,7 @@ done
 # A rule by the name of its kind, with the numbers that the kind uses.
 expect 0 000000000000000000000000 tools/line rule true
 expect 0 011E0000000000000000001F tools/line rule bit 30
-expect 0 023E00000000000000000040 tools/line rule not 62
+expect 0 02FE00000000000000000000 tools/line rule not 254
 expect 0 030102000000000000000006 tools/line rule and 1 2
 expect 0 040201000000000000000007 tools/line rule or 2 1
 expect 0 05030000000064000000C834 tools/line rule previous 3 100 200
@@ -80,7 +80,7 @@ expect 0 03E8800000006B tools/line frame 0x3E8 0x80000000
 # A list of rows; the sum goes round.
 expect 0 AA00AA tools/line list 0
 expect 0 AA04090EC5 tools/line list 4 9 0xE
-expect 0 AA303132333435363738393A3B3C3D3E3F22 tools/line list {48..63}
+expect 0 AAF0F1F2F3F4F5F6F7F8F9FAFBFCFDFEFF22 tools/line list {240..255}
 
 # line_refuses TEXT WORDS..: tools/line says TEXT of the words, and writes no line.
 line_refuses() {
@@ -112,10 +112,10 @@ rule_refuses 'bit X' "x is bit 31, the heartbeat's; bits are 0 to 30" bit 31
 rule_refuses 'bit X' 'x is bit 32; bits are 0 to 30' bit 32
 rule_refuses 'bit X' 'x is bit -1; bits are 0 to 30' bit -1
 rule_refuses 'bit X' 'x is bit 256; bits are 0 to 30' bit 256
-rule_refuses 'not X' 'x names row 63; it may be a lower row, 0 to 62' not 63
-rule_refuses 'and X Y' 'y names row 63; it may be a lower row, 0 to 62' and 62 63
-rule_refuses 'since X Y A B' 'y names row -1; it may be a lower row, 0 to 62' since 0 -1 0 0
-rule_refuses 'always X A B' 'x names row 256; it may be a lower row, 0 to 62' always 256 0 0
+rule_refuses 'not X' 'x names row 255; it may be a lower row, 0 to 254' not 255
+rule_refuses 'and X Y' 'y names row 255; it may be a lower row, 0 to 254' and 254 255
+rule_refuses 'since X Y A B' 'y names row -1; it may be a lower row, 0 to 254' since 0 -1 0 0
+rule_refuses 'always X A B' 'x names row 256; it may be a lower row, 0 to 254' always 256 0 0
 rule_refuses 'once X A B' 'a is 86400001; it may be 0 to 86400000' once 0 86400001 no-end
 rule_refuses 'once X A B' 'a is -1; it may be 0 to 86400000' once 0 -1 0
 rule_refuses 'once X A B' 'b is 4; it may be a, which is 5, to 86400000, or no end' once 0 5 4
@@ -124,8 +124,8 @@ rule_refuses 'always X A B' 'b is -1; it may be a, which is 0, to 86400000, or n
 rule_refuses 'previous X A B' "a: 'no-end' is no number; write it in decimal, or in hexadecimal after 0x" previous 0 no-end 5
 line_refuses "line list: error: row 4 is listed after row 9; a list rises" list 1 9 4
 line_refuses "line list: error: row 9 is listed after row 9; a list rises" list 9 9
-line_refuses "line list: error: row 64 is listed; rows are 0 to 63" list 0 64
-line_refuses "line list: error: row -1 is listed; rows are 0 to 63" list -1 0
+line_refuses "line list: error: row 256 is listed; rows are 0 to 255" list 0 256
+line_refuses "line list: error: row -1 is listed; rows are 0 to 255" list -1 0
 line_refuses "line list: error: a list has 1 to 16 rows, and here are 17" list {0..16}
 line_refuses "line list: error: the following arguments are required: ROW" list
 line_refuses "'ten' is no number" list ten
@@ -147,9 +147,9 @@ expect 0 "usage: line list" tools/line list --help
 expect 0 "usage: table" tools/table --help
 expect 0 "usage: tools/footprint" tools/footprint --help
 expect 2 "there is no target 'cortex-m9'" tools/footprint cortex-m9
-expect 0 "usage: tools/reads" tools/reads --help
-expect 2 "there is no option '-x'" tools/reads -x
-expect 2 "there is no archive 'no-such.a'" tools/reads no-such.a
+expect 0 "usage: tools/event" tools/event --help
+expect 2 "there is no option '-x'" tools/event -x
+expect 2 "there is no archive 'no-such.a'" tools/event no-such.a
 expect 2 "no-such cannot be read: No such file or directory" tools/table no-such
 
 # table_says STATUS TEXT LINE..: what tools/table says of these rule lines.
@@ -255,8 +255,8 @@ table_says 1 "'true' does not use a and b, so they must be 0" "$(row 0 0 0 0 1)"
 table_says 1 "row 1: refused 3: a is 86400001; it may be 0 to 86400000" "$true" "$(row 5 0 0 86400001 $no_end)"
 table_says 1 "row 1: refused 3: b is 86400001; it may be a, which is 0, to 86400000, or no end" "$true" "$(row 7 0 0 0 86400001)"
 table_says 1 "row 1: refused 3: b is 2; it may be a, which is 3, to 86400000, or no end" "$true" "$(row 8 0 0 3 2)"
-mapfile -t full < <(for _ in {1..65}; do printf '%s\n' "$true"; done)
-table_says 1 "line 65: refused 1" "${full[@]}"
+mapfile -t full < <(for _ in {1..257}; do printf '%s\n' "$true"; done)
+table_says 1 "line 257: refused 1" "${full[@]}"
 table_says 0 "  0      -      -    bit 0  true at every event" "${full[@]:1}" AA00AA ''
 table_says 1 "line 1: refused 8: not 24 digits 0-9 A-F and a line feed (the program writes EE0800)" 00000000000000000000000a
 table_says 1 "it ends in CR LF, not in a line feed alone (the program writes EE0801)" "$true" "$true"$'\r'

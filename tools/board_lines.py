@@ -11,7 +11,7 @@ import signal
 import sys
 from collections import namedtuple
 
-ROW_LIMIT = 64
+ROW_LIMIT = 256
 LIST_LIMIT = 16  # the most rows that a list names
 LIST_MARK = 0xAA  # a list line begins with it, and no rule line does
 HEARTBEAT_BIT = 31  # a frame with it is a heartbeat; a rule asks for the bits below

@@ -20,13 +20,13 @@ static void same(const char *what, uint64_t found, uint64_t wanted) {
 
 static void layout(void) {
     static const muk_record one;
-    SAME(sizeof one, 352);
+    SAME(sizeof one, 1312);
     AT(seen, 0, 1);
     AT(clock, 8, 8);
     AT(last, 16, 8);
     AT(rows, 24, 4);
     AT(truths, 28, MUK_ROWS);
-    AT(counts, 92, 4 * MUK_ROWS);
+    AT(counts, 284, 4 * MUK_ROWS);
 }
 
 /* Bit 0 exactly 2 ms ago. */
@@ -134,16 +134,16 @@ static void refused(uint32_t number, uint32_t row, const uint32_t *table, uint64
 }
 
 static void codes(void) {
-    SAME(MUK_VERSION, 3);
+    SAME(MUK_VERSION, 4);
     SAME(muk_version(), MUK_VERSION);
     SAME(MUK_HEARTBEAT, UINT32_C(1) << 31);
     SAME(MUK_MOVED, UINT32_C(1) << 31);
     SAME(MUK_LIST, 16);
     SAME(MUK_BAD_LIST, 10);
-    SAME(muk_refusal(refusal(MUK_BAD_LIMITS, 63)), 3);
-    SAME(muk_row(refusal(MUK_BAD_LIMITS, 63)), 63);
-    SAME(muk_verdict(refusal(MUK_BAD_LIMITS, 63)), 0);
-    SAME(muk_moved(refusal(MUK_BAD_LIMITS, 63)), 0);
+    SAME(muk_refusal(refusal(MUK_BAD_LIMITS, 255)), 3);
+    SAME(muk_row(refusal(MUK_BAD_LIMITS, 255)), 255);
+    SAME(muk_verdict(refusal(MUK_BAD_LIMITS, 255)), 0);
+    SAME(muk_moved(refusal(MUK_BAD_LIMITS, 255)), 0);
     SAME(muk_verdict(0xFFFF), 0xFFFF);
     SAME(muk_refusal(0xFFFF), 0);
     SAME(muk_moved(0xFFFF), 0);

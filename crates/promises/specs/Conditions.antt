@@ -23,7 +23,7 @@ use Rattle.times.specs.Times.{timeLimit}
 use Rattle.row_list.specs.Truths.{truthAt}
 use Rattle.soundness.specs.Record.{wasSeen, heldAt, stretchAt, clockOf, eventTime}
 
--- 1: "table length not a multiple of 5, or rows not 1 to 64" is that this fails.
+-- 1: "table length not a multiple of 5, or rows not 1 to" the limit is that this fails.
 pub record LengthRight (table : List ℕ) : Type 0 where
   pub whole : length table % rowNumbers ≡ 0
   pub least : 1 ≤ rowsOf table

@@ -5,7 +5,7 @@ ghost use mathlib.Core.Path.{_≡_};
 ghost use Rattle.refusals.specs.Refusals.{numberOf, rowOf};
 
 pub enum Refusal {
-    // 1: the table's length is not a multiple of 5, or its rows are not 1 to 64.
+    // 1: the table's length is not a multiple of 5, or its rows are not 1 to 256.
     Length,
     // 2, with its row: kind over 8, x or y not lower, bit over 30, unused not 0.
     Row(u32),

@@ -93,7 +93,7 @@ pub first-at : (table : List ℕ) (r : ℕ) (fault : Option Refused) → firstFa
 unfolding firstFault
 first-at table r fault h e = rw (h, e)
 
--- 1: "table length not a multiple of 5, or rows not 1 to 64", where it passes.
+-- 1: "table length not a multiple of 5, or rows not 1 to" the limit, where it passes.
 pub record WholeRows (numbers : ℕ) : Type 0 where
   pub no-rest : numbers % rowNumbers ≡ 0
   pub some-row : 1 ≤ numbers / rowNumbers

@@ -6,9 +6,9 @@ use Prim.Native.Nat.{ℕ}
 abbrev pub rowNumbers : ℕ
 rowNumbers = 5
 
--- "1 to 64 rows".
+-- "Raise the row limit to 256" (document 02, E6): a table has 1 to so many rows.
 abbrev pub rowLimit : ℕ
-rowLimit = 64
+rowLimit = 256
 
 -- "a is 0 to 86,400,000; b is a to 86,400,000".
 abbrev pub longest : ℕ

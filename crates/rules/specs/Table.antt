@@ -16,7 +16,7 @@ use Rattle.rules.specs.declared.numbers.Numbers.{Numbers}
 use Rattle.refusals.specs.declared.refusal.Refusal.the-variants.{Length, Row, Limits}
 use Rattle.rules.specs.declared.table.Checked as Answer
 
--- 1: "table length not a multiple of 5, or rows not 1 to 64".
+-- 1: "table length not a multiple of 5, or rows not 1 to" the limit.
 unfoldable pub lengthPasses : ℕ → Bool
 lengthPasses numbers = eqb (numbers % rowNumbers) 0 && leb 1 (numbers / rowNumbers) && leb (numbers / rowNumbers) rowLimit
 

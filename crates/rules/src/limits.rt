@@ -4,8 +4,8 @@
 // "five per row: kind, x, y, a, b".
 pub const ROW_NUMBERS: usize = 5;
 
-// "1 to 64 rows".
-pub const ROW_LIMIT: usize = 64;
+// "Raise the row limit to 256" (document 02, E6).
+pub const ROW_LIMIT: usize = 256;
 
 // "a is 0 to 86,400,000; b is a to 86,400,000".
 pub const LONGEST: u32 = 86_400_000;

@@ -59,7 +59,7 @@ pub fn check(table: &[u32]) -> Checked
     }
 }
 
-// Whether so many numbers are 1 to 64 whole rows.
+// Whether so many numbers are whole rows, at least one and no more than the limit.
 fn length_passes(length: usize) -> bool
     ensures { λ r. ⌜ r ≡ lengthPasses length ⌝ }
 {

@@ -7,16 +7,17 @@ use Prim.Native.Nat.{ℕ, zero, suc, _+_, _-_, _≤_, _<_, max}
 use native.Mathlib.Nat.{eq-or-lt-of-le, le-of-suc-le-suc}
 use native.Mathlib.Numerals.{add-one}
 use native.Mathlib.Omega.{arith}
+use lib.Bits.{bitAnd, bitOr, or-add-and, and-le-l, and-le-r}
 use lib.Dec.{leb, eqb}
 use lib.ListN.{length, getD, take, drop}
-use borrow.Author.Tests.{lt-ltb, le-ltb, leb-true, eqb-true, eq-eqb, ne-eqb}
+use borrow.Author.Tests.{lt-ltb, le-ltb, leb-true, eqb-true, eqb-false, eq-eqb, ne-eqb}
 use Rattle.meaning.specs.Interval.{End, upTo, noEnd, endOf, _+End_}
 use Rattle.meaning.specs.Sound.{lengthOf}
 use Rattle.rules.specs.Limits.{rowLimit}
 use Rattle.rules.specs.Rows.{rowsOf, numbersAt}
 use Rattle.rules.specs.Stretches.{spansOf, width, offset}
 use Rattle.rules.specs.declared.numbers.Numbers.{Numbers}
-use Rattle.meaning.proofs.Truths.{and-false, and-left, and-right}
+use Rattle.meaning.proofs.Truths.{by-test, and-false, and-left, and-right}
 use Rattle.rules.proofs.StretchesLaws.{stretch-before}
 use Rattle.spans.specs.Layout.{spansFrom, zeros?}
 use Rattle.sound_spans.specs.StretchSound.{soundFrom?, soundEndless?, soundSpans?, soundStretch?}
@@ -120,24 +121,36 @@ pub rows-counted : (table store : List ℕ) (seen clock last count rows : ℕ) (
     → every (rowsOf table) (soundRow? table store (recordOf seen clock last count truths counts)) ≡ answer
 rows-counted table store seen clock last count rows truths counts same counted told = rw (told, ← counted, same)
 
--- What stands past the rows of the table: nothing is asked of the rows themselves, and each later one decides by its truth, then by its count.
+and-pairs : (w x y z : Bool) → ((w && x) && (y && z)) ≡ ((w && y) && (x && z))
+and-pairs false x y z = refl
+and-pairs true true y z = refl
+and-pairs true false true z = refl
+and-pairs true false false z = refl
+
+-- Two numbers put together by their bits are 0 where both are.
+or-zero : (x y : ℕ) → eqb (bitOr x y) 0 ≡ (eqb x 0 && eqb y 0)
+or-zero x y =
+    let sum : bitOr x y + bitAnd x y ≡ x + y = or-add-and x y in
+    let in-x : bitAnd x y ≤ x = and-le-l x y in
+    let in-y : bitAnd x y ≤ y = and-le-r x y in
+    by-test (eqb (bitOr x y) 0)
+    (λ none. let zero : bitOr x y ≡ 0 = eqb-true _ _ none in rw (none, eq-eqb x 0 (omega arith), eq-eqb y 0 (omega arith)))
+    (λ some. let set : ¬ (bitOr x y ≡ 0) = eqb-false _ _ some in by-test (eqb x 0)
+    (λ first. let unset : x ≡ 0 = eqb-true _ _ first in rw (some, first, ne-eqb y 0 (λ second. set (omega arith))))
+    (λ first. rw (some, first)))
+
+-- What stands past the rows of the table: nothing is asked of the rows themselves, and one entry more is put to the others.
 module _ (rows : ℕ) (truths counts : List ℕ) where
   pub none-past : every rows (zeroPast? rows truths counts) ≡ true
   unfolding zeroPast?
   none-past = every-all rows (zeroPast? rows truths counts) (λ row lower. rw (lt-ltb row rows lower))
 
-  module _ {row : ℕ} (past : rows ≤ row) where
-    pub past-true : ¬ (getD truths row 0 ≡ 0) → zeroPast? rows truths counts row ≡ false
-    unfolding zeroPast?
-    past-true set = rw (le-ltb _ _ past, ne-eqb _ _ set)
-
-    pub past-counted : getD truths row 0 ≡ 0 → ¬ (getD counts row 0 ≡ 0) → zeroPast? rows truths counts row ≡ false
-    unfolding zeroPast?
-    past-counted unset counted = rw (le-ltb _ _ past, eq-eqb _ _ unset, ne-eqb _ _ counted)
-
-    pub past-zero : getD truths row 0 ≡ 0 → getD counts row 0 ≡ 0 → zeroPast? rows truths counts row ≡ true
-    unfolding zeroPast?
-    past-zero unset none = rw (le-ltb _ _ past, eq-eqb _ _ unset, eq-eqb _ _ none)
+  pub past-more : {row : ℕ} (truth count : ℕ) → rows ≤ row → (eqb truth 0 && eqb count 0) ≡ every row (zeroPast? rows truths counts)
+      → (eqb (bitOr truth (getD truths row 0)) 0 && eqb (bitOr count (getD counts row 0)) 0) ≡ every (row + 1) (zeroPast? rows truths counts)
+  unfolding every zeroPast?
+  past-more {row} truth count past is =
+      rw (or-zero truth (getD truths row 0), or-zero count (getD counts row 0), add-one, le-ltb _ _ past, ← is)
+      (and-pairs (eqb truth 0) (eqb (getD truths row 0) 0) (eqb count 0) (eqb (getD counts row 0) 0))
 
 -- What a sound record gives: its row count is the table's, its times are in order and within the limit, and every row is sound.
 pub record SoundParts (table store : List ℕ) (found : Record) : Type 0 where
@@ -185,6 +198,6 @@ module _ (table store : List ℕ) (found : Record) where
       unsound-row rows = rw (eq-eqb _ _ count, timely, rows)
 
       pub sound-by-past : every (rowsOf table) (soundRow? table store found) ≡ true
-          → every rowLimit (zeroPast? (rowsOf table) (found .truths) (found .counts)) ≡ sound? table store found
+          → every rowLimit (zeroPast? (found .rows) (found .truths) (found .counts)) ≡ sound? table store found
       unfolding sound?
-      sound-by-past rows = rw (eq-eqb _ _ count, timely, rows)
+      sound-by-past rows = rw (eq-eqb _ _ count, timely, rows, count)

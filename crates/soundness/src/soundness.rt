@@ -48,7 +48,7 @@ pub(crate) fn sound_record(
     }
     if sound_times(seen, clock, last) {
         if sound_rows(table, store, rows, seen, clock, last, truths, counts) {
-            return zero_past(rows, truths, counts);
+            return zero_past(count, truths, counts);
         }
     }
     false
@@ -177,20 +177,22 @@ fn sound_stretch(words: &[u64], count: u32, clock: u64, last: u64, numbers: Numb
     )
 }
 
-// Past the table's rows every truth is false and every span count 0.
-fn zero_past(rows: usize, truths: &[u8; ROW_LIMIT], counts: &[u32; ROW_LIMIT]) -> bool
+// Past the table's rows every truth is false and every span count 0. Of a short table this is much of what a call costs, so all entries are put together
+// before they are looked at, and counted in 32 bits, as a small processor counts.
+fn zero_past(rows: u32, truths: &[u8; ROW_LIMIT], counts: &[u32; ROW_LIMIT]) -> bool
     requires { ⌜ rows ≤ rowLimit ⌝ }
     ensures { λ r. ⌜ r ≡ every rowLimit (zeroPast? rows (now (truths .entry)) (now (counts .entry))) ⌝ }
 {
+    let mut truth_bits = 0;
+    let mut count_bits = 0;
     let mut row = rows;
-    while row < ROW_LIMIT {
-        if truths[row] != 0 {
-            return false;
-        }
-        if counts[row] != 0 {
-            return false;
-        }
+    while (row as usize) < ROW_LIMIT {
+        truth_bits = truth_bits | truths[row as usize];
+        count_bits = count_bits | counts[row as usize];
         row += 1;
     }
-    true
+    if truth_bits == 0 {
+        return count_bits == 0;
+    }
+    false
 }

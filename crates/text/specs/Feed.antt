@@ -80,8 +80,8 @@ fresh =
       stage = staged Rules 0 (listOf []) (nothingSeen 0);
     }
 
--- "a 65th line before the empty one EE0100, whatever it holds; a line cut off by the text's end is a bad line; text that ends at a line's start
--- before the empty line EE0800". A list line that is cut off, or any line begun after one, is EE0A00.
+-- A line more than the row limit "before the empty one EE0100, whatever it holds; a line cut off by the text's end is a bad line; text that ends at a line's
+-- start before the empty line EE0800". A list line that is cut off, or any line begun after one, is EE0A00.
 abbrev pub endText : Part → ℕ → List ℕ → List ℕ
 endText Rules rows line =
     cond (eqb (length line) 0) (refusedLine (refused BadLine))

@@ -107,8 +107,9 @@ abbrev pub unlessFault : ℕ → Option Refused → List ℕ → List ℕ
 unlessFault row none more = more
 unlessFault row (some fault) more = refusalLine (fault .number) row
 
--- "an empty line", which ends the rules; a list line, "not counted among the 64"; "a 65th line before the empty one EE0100, whatever it holds"; "text
--- that ends at a line's start before the empty line EE0800". A line cut off by the text's end is a bad line, since it has no line feed.
+-- "an empty line", which ends the rules; a list line, which is not counted among the rows; a line more than the row limit "before the empty one EE0100,
+-- whatever it holds"; "text that ends at a line's start before the empty line EE0800". A line cut off by the text's end is a bad line, since it has no line
+-- feed.
 unfoldable pub rulesFrom : List ℕ → List (List ℕ) → List ℕ
 rulesFrom table [] = refusedLine (refused BadLine)
 rulesFrom table (line ∷ lines) =

@@ -113,7 +113,8 @@ startTurn list d start =
 abbrev pub emptyTurn : RowList → Desk → Turn
 emptyTurn list d = startTurn list d (startOf (setupWith list d) (d .store))
 
--- "no list means the last row alone"; a list line is "not counted among the 64"; "a 65th line before the empty one EE0100, whatever it holds".
+-- "no list means the last row alone"; a list line is not counted among the rows; a line more than the row limit "before the empty one EE0100, whatever it
+-- holds".
 unfoldable pub beforeList : List ℕ → Desk → Turn
 beforeList line d =
     cond (eqb (byteAt line 0) lineFeed) (emptyTurn (listOf (lastRow (d .stage .rows))) d)

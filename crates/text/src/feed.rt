@@ -160,7 +160,7 @@ fn end_text(stage: Stage, line: &[u8], out: &mut [u8]) -> usize
     }
 }
 
-// Among the rules: no line is begun, the line is a bad list line, the 65th, or a bad rule line.
+// Among the rules: no line is begun, the line is a bad list line, one more than the row limit, or a bad rule line.
 fn end_of_rules(rows: usize, line: &[u8], out: &mut [u8]) -> usize
     requires { ⌜ longestReply ≤ length (now out) ⌝ }
     ensures { λ r. ⌜ Wrote (now (out .entry)) 0 (endText Part.Rules rows (now (line .entry))) r (now (out .exit)) ⌝ }

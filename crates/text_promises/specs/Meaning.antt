@@ -54,8 +54,8 @@ LinesMeant setup calls (line ∷ lines) output =
     × LineMeant setup calls (readFrame line 0 .said) reply
     × LinesMeant setup (callsAfter calls (readFrame line 0 .said)) lines rest
 
--- Good rule lines, at most 64, that bring a table to what it is at the empty line, with the list of a good list line just before that one, or of the
--- last row alone; and the lines after the empty one.
+-- Good rule lines, no more than the row limit, that bring a table to what it is at the empty line, with the list of a good list line just before that
+-- one, or of the last row alone; and the lines after the empty one.
 pub data RulesThen : List ℕ → List (List ℕ) → Setup → List (List ℕ) → Type 0 where
   emptyLine : {table line : List ℕ} {lines : List (List ℕ)}
       → byteAt line 0 ≡ lineFeed

@@ -5,18 +5,23 @@
 
 #include "muktrashi.h"
 
+/* The longest table, list and other row, and how much of the file is read at once: a small board has 16 kB of memory. */
+#define LONGEST_TABLE (5 * (MUK_ROWS + 2))
+#define LONGEST_LIST (2 * MUK_LIST + 1)
 #define LONGEST_ROW 330
+#define READ_AT_ONCE 256
 /* The word behind the lent store, which must stay as it is. */
 #define GUARD UINT64_C(0x5A5A5A5A5A5A5A5A)
 
 enum { END, CHECK, START, EVENT, FRAME, FRAME_TIME, READ_FRAME };
 
 static FILE *file;
+static char read_at_once[READ_AT_ONCE];
 static unsigned long calls;
 
-static uint32_t table[LONGEST_ROW];
+static uint32_t table[LONGEST_TABLE];
 static uint64_t table_len;
-static uint32_t list[LONGEST_ROW];
+static uint32_t list[LONGEST_LIST];
 static uint64_t list_len;
 static uint64_t store[LONGEST_ROW + 1];
 static uint64_t store_len;
@@ -56,16 +61,16 @@ static void same(const char *what, uint64_t found) {
     }
 }
 
-static uint64_t length(void) {
+static uint64_t length(uint64_t longest) {
     uint64_t read = number();
-    if (read > LONGEST_ROW)
+    if (read > longest)
         stop("a row is too long");
     return read;
 }
 
 static void read_table(void) {
     uint64_t i;
-    table_len = length();
+    table_len = length(LONGEST_TABLE);
     for (i = 0; i < table_len; i++)
         table[i] = (uint32_t)number();
 }
@@ -73,21 +78,22 @@ static void read_table(void) {
 static void read_rules(void) {
     uint64_t i;
     read_table();
-    list_len = length();
+    list_len = length(LONGEST_LIST);
     for (i = 0; i < list_len; i++)
         list[i] = (uint32_t)number();
 }
 
 static void read_text(void) {
     uint64_t i;
-    text_len = length();
+    text_len = length(LONGEST_ROW);
     for (i = 0; i < text_len; i++)
         text[i] = (uint8_t)number();
 }
 
+/* The record's entries stand in the file up to the last that is not 0. */
 static void read_kept(void) {
-    uint64_t i;
-    store_len = length();
+    uint64_t i, used;
+    store_len = length(LONGEST_ROW);
     for (i = 0; i < store_len; i++)
         store[i] = number();
     store[store_len] = GUARD;
@@ -95,14 +101,23 @@ static void read_kept(void) {
     record.clock = number();
     record.last = number();
     record.rows = (uint32_t)number();
+    used = length(MUK_ROWS);
     for (i = 0; i < MUK_ROWS; i++)
-        record.truths[i] = (uint8_t)number();
+        record.truths[i] = i < used ? (uint8_t)number() : 0;
+    used = length(MUK_ROWS);
     for (i = 0; i < MUK_ROWS; i++)
-        record.counts[i] = (uint32_t)number();
+        record.counts[i] = i < used ? (uint32_t)number() : 0;
+}
+
+static void same_entry(const char *what, uint64_t found, int written) {
+    if (written)
+        same(what, found);
+    else if (found != 0)
+        stop("an entry of the record is not 0");
 }
 
 static void same_kept(void) {
-    uint64_t i;
+    uint64_t i, used;
     same("the store's length", store_len);
     for (i = 0; i < store_len; i++)
         same("a word of the store", store[i]);
@@ -112,10 +127,12 @@ static void same_kept(void) {
     same("clock", record.clock);
     same("last", record.last);
     same("rows", record.rows);
+    used = length(MUK_ROWS);
     for (i = 0; i < MUK_ROWS; i++)
-        same("a truth", record.truths[i]);
+        same_entry("a truth", record.truths[i], i < used);
+    used = length(MUK_ROWS);
     for (i = 0; i < MUK_ROWS; i++)
-        same("a count", record.counts[i]);
+        same_entry("a count", record.counts[i], i < used);
 }
 
 static void check(void) {
@@ -183,7 +200,7 @@ static void read_frame(void) {
 
 int main(void) {
     file = fopen("calls", "rb");
-    if (file == NULL)
+    if (file == NULL || setvbuf(file, read_at_once, _IOFBF, READ_AT_ONCE) != 0)
         stop("the file 'calls' cannot be read");
     for (;; calls++) {
         switch (number()) {

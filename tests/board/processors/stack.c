@@ -1,5 +1,5 @@
 /* The deepest stack of each function of the library, in bytes, its arguments and its return address among them: the stack is painted, a call is made,
- * and where the paint is gone the call has been. The calls are good and refused ones, events and heartbeats, over a table of 64 rows of every kind whose
+ * and where the paint is gone the call has been. The calls are good and refused ones, events and heartbeats, over a table of 256 rows of every kind whose
  * spans fill their stretches, and a list of 16. */
 #include <stdio.h>
 
@@ -8,11 +8,20 @@
 #define DEPTH 5120
 #define PAINT 0xA5
 #define NUMBERS (5 * MUK_ROWS)
-#define STORE 160
+#define STORE 640
 #define EVENTS 100
 #define NO_END UINT32_C(4294967295)
 
-static uint32_t rules[NUMBERS], list[MUK_LIST];
+/* Nine rows from row `at` on, one of them for each kind but those of the first two. A small board has no room for the table but in read-only memory. */
+#define SIX(at) \
+    5, at + 2, 0, 0, 1, 6, 0, 1, 4, 4, 6, 0, at + 4, 1, 3, 6, at + 3, at + 5, 2, NO_END, 7, 1, 0, 4, 4, 8, 2, 0, 4, 4
+#define NINE(at) 2, at - 1, 0, 0, 0, 3, at, at - 1, 0, 0, 4, at + 1, at, 0, 0, SIX(at)
+#define TWENTY_SEVEN(at) NINE(at), NINE(at + 9), NINE(at + 18)
+#define EIGHTY_ONE(at) TWENTY_SEVEN(at), TWENTY_SEVEN(at + 27), TWENTY_SEVEN(at + 54)
+
+static const uint32_t rules[NUMBERS] = {0, 0, 0, 0, 0, 1, 0, 0, 0, 0, 2, 1, 0, 0, 0, SIX(0), EIGHTY_ONE(9), EIGHTY_ONE(90), EIGHTY_ONE(171),
+                                        /* rows 252 to 255 */ 2, 251, 0, 0, 0, 7, 252, 0, 4, 4, 8, 253, 0, 4, 4, 5, 254, 0, 0, 1};
+static uint32_t list[MUK_LIST];
 static uint64_t store[STORE];
 static muk_record record;
 static uint64_t table_len = NUMBERS, list_len = MUK_LIST, store_len = STORE;
@@ -64,54 +73,6 @@ static uint32_t call(int function) {
     return code;
 }
 
-static void row(int at, uint32_t kind, int x, int y, uint32_t a, uint32_t b) {
-    uint32_t *numbers = rules + 5 * at;
-    numbers[0] = kind;
-    numbers[1] = (uint32_t)x;
-    numbers[2] = (uint32_t)y;
-    numbers[3] = a;
-    numbers[4] = b;
-}
-
-static void table(void) {
-    int at;
-    row(0, 0, 0, 0, 0, 0);
-    row(1, 1, 0, 0, 0, 0);
-    row(2, 2, 1, 0, 0, 0);
-    for (at = 3; at < MUK_ROWS; at++) {
-        switch (at % 9) {
-        case 0:
-            row(at, 2, at - 1, 0, 0, 0);
-            break;
-        case 1:
-            row(at, 3, at - 1, at - 2, 0, 0);
-            break;
-        case 2:
-            row(at, 4, at - 1, at - 2, 0, 0);
-            break;
-        case 3:
-            row(at, 5, at - 1, 0, 0, 1);
-            break;
-        case 4:
-            row(at, 6, 0, 1, 4, 4);
-            break;
-        case 5:
-            row(at, 6, 0, at - 1, 1, 3);
-            break;
-        case 6:
-            row(at, 6, at - 3, at - 1, 2, NO_END);
-            break;
-        case 7:
-            row(at, 7, 1, 0, 4, 4);
-            break;
-        default:
-            row(at, 8, 2, 0, 4, 4);
-        }
-    }
-    for (at = 0; at < MUK_LIST; at++)
-        list[at] = (uint32_t)(MUK_ROWS - MUK_LIST + at);
-}
-
 /* The refusals of an event or a frame. */
 static void refused(int function) {
     table_len = 0;
@@ -134,7 +95,8 @@ static void refused(int function) {
 int main(void) {
     static const uint8_t line[] = "E2F400000001D7\n";
     int i, function;
-    table();
+    for (i = 0; i < MUK_LIST; i++)
+        list[i] = (uint32_t)(MUK_ROWS - MUK_LIST + i);
     call(VERSION);
     if (call(CHECK) != 0 || need > STORE) {
         printf("stack.c: the table does not pass, or its need is %lu\n", (unsigned long)need);

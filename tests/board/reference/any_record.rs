@@ -2,7 +2,7 @@
 
 use crate::board::{Call, Checked, Kept, Record, HEARTBEAT, MOVED};
 use crate::lines::time_of;
-use crate::table::{self, Formula, Interval, Refusal, Rules, ROW_LIMIT, TIME_LIMIT};
+use crate::table::{self, Formula, Interval, Refusal, Rules, Table, ROW_LIMIT, TIME_LIMIT};
 
 /// The stored last of a span without end.
 pub const NO_LAST: u64 = 18_446_744_073_709_551_615;
@@ -143,7 +143,7 @@ fn beat(rows: &[Formula], store: &mut [u64], record: &mut Record, t: u64) {
     record.clock = t;
 }
 
-pub fn check(table: &[u32], checked: &mut Checked) -> u32 {
+pub fn check(Table(table): Table, checked: &mut Checked) -> u32 {
     let rows = match table::check(table) {
         Err(refusal) => return refusal.code(),
         Ok(rows) => rows,

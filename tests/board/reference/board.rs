@@ -1,7 +1,7 @@
 //! The library's functions for C, as include/muktrashi.h declares them, with each call counted. Each is a function of what it reads and of what it may
 //! write, and gives the code; the references have the same functions.
 
-use crate::table::{Rules, ROW_LIMIT};
+use crate::table::{Rules, Table, ROW_LIMIT};
 use std::sync::atomic::{AtomicU64, Ordering};
 
 #[repr(C)]
@@ -125,7 +125,7 @@ fn lent_to_write(kept: &mut Kept) -> (*mut u64, u64, *mut Record) {
     (pointer, store.len() as u64, record)
 }
 
-pub fn check(table: &[u32], checked: &mut Checked) -> u32 {
+pub fn check(Table(table): Table, checked: &mut Checked) -> u32 {
     count();
     let (table, numbers) = lent(table);
     unsafe { muk_check(table, numbers, &mut checked.rows, &mut checked.need) }

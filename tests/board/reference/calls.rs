@@ -1,15 +1,18 @@
 //! A file of calls with what the references have for them, which tests/board/processors/replay.c makes again on other processors. For each call: its
-//! function, what it reads, what it may write as it was, the code, and what it may write as it is left. A row is its length and its numbers. A number is
-//! in groups of seven bits, lowest first, with 128 added to all but the last. 0 for the function ends the file; the count of calls follows.
+//! function, what it reads, what it may write as it was, the code, and what it may write as it is left. A row is its length and its numbers; of the record's
+//! entries, those after the last that is not 0 are left out. A number is in groups of seven bits, lowest first, with 128 added to all but the last. 0 for the
+//! function ends the file; the count of calls follows.
 
 use crate::board::{Call, Checked, Kept, Line};
-use crate::table::Rules;
+use crate::table::{Rules, Table, LIST_LIMIT, ROW_LIMIT};
 use std::fs::File;
 use std::io::{BufWriter, Write};
 
 /// Every so many calls one is written, if it fits.
 const EVERY: u64 = 37;
-/// The longest row that fits: a small board has 16 kB of memory.
+/// The longest table, list and other row that fit: a small board has 16 kB of memory.
+const LONGEST_TABLE: usize = 5 * (ROW_LIMIT + 2);
+const LONGEST_LIST: usize = 2 * LIST_LIMIT + 1;
 const LONGEST_ROW: usize = 330;
 
 #[derive(Clone, Copy, Debug)]
@@ -41,6 +44,18 @@ impl Entry {
     fn numbers<T: Copy + Into<u64>>(&mut self, numbers: &[T]) {
         numbers.iter().for_each(|&number| self.number(number));
     }
+
+    fn row<T: Copy + Into<u64>>(&mut self, numbers: &[T], longest: usize) {
+        self.fits &= numbers.len() <= longest;
+        self.number(numbers.len() as u64);
+        self.numbers(numbers);
+    }
+
+    /// The record's entries, without the zeros at their end.
+    fn entries<T: Copy + Into<u64>>(&mut self, numbers: &[T; ROW_LIMIT]) {
+        let used = numbers.iter().rposition(|&number| number.into() != 0).map_or(0, |last| last + 1);
+        self.row(&numbers[..used], ROW_LIMIT);
+    }
 }
 
 /// What is written as numbers.
@@ -50,9 +65,13 @@ pub trait Written {
 
 impl<T: Copy + Into<u64>> Written for [T] {
     fn to(&self, entry: &mut Entry) {
-        entry.fits &= self.len() <= LONGEST_ROW;
-        entry.number(self.len() as u64);
-        entry.numbers(self);
+        entry.row(self, LONGEST_ROW);
+    }
+}
+
+impl Written for Table<'_> {
+    fn to(&self, entry: &mut Entry) {
+        entry.row(self.0, LONGEST_TABLE);
     }
 }
 
@@ -71,8 +90,8 @@ impl<A: Written, B: Written> Written for (A, B) {
 
 impl Written for Rules<'_> {
     fn to(&self, entry: &mut Entry) {
-        self.table.to(entry);
-        self.list.to(entry);
+        Table(self.table).to(entry);
+        entry.row(self.list, LONGEST_LIST);
     }
 }
 
@@ -95,8 +114,8 @@ impl Written for Kept {
         entry.number(self.record.clock);
         entry.number(self.record.last);
         entry.number(self.record.rows);
-        entry.numbers(&self.record.truths);
-        entry.numbers(&self.record.counts);
+        entry.entries(&self.record.truths);
+        entry.entries(&self.record.counts);
     }
 }
 

@@ -283,7 +283,7 @@ pub fn damage_record(random: &mut Random, record: &mut Record, store: &mut [u64]
         1 => *record = Record { seen: 0, last: 0, truths: [0; ROW_LIMIT], ..*record },
         2 | 3 => record.clock = random.pick(&[0, last, TIME_LIMIT, TIME_LIMIT + 1, u64::MAX, clock.wrapping_add(near)]),
         4 | 5 => record.last = random.pick(&[0, clock, clock.wrapping_add(1), TIME_LIMIT + 1, u64::MAX, last.wrapping_add(near)]),
-        6 => record.rows = random.pick(&[0, 64, 65, u32::MAX, record.rows.wrapping_add(near as u32)]),
+        6 => record.rows = random.pick(&[0, ROW_LIMIT as u32, ROW_LIMIT as u32 + 1, u32::MAX, record.rows.wrapping_add(near as u32)]),
         7 | 8 => record.truths[row] = random.pick(&[0, 1, 2, 128, 255]),
         9 | 10 => record.counts[row] = random.pick(&[0, 1, u32::MAX, record.counts[row].wrapping_add(near as u32)]),
         11 => {

@@ -15,7 +15,7 @@ use calls::{Calls, Function, Written};
 use inputs::Random;
 use meaning::History;
 use std::fmt::Debug;
-use table::{Rules, TIME_LIMIT};
+use table::{Rules, Table, TIME_LIMIT};
 
 const SEED: u64 = 20_031_118;
 const STREAMS: u64 = 10_000;
@@ -129,7 +129,7 @@ fn tables(random: &mut Random, calls: &mut Calls) {
             }
         }
         let mut checked = inputs::any_checked(random);
-        let code = compare(calls, Function::Check, &table[..], &mut checked, board::check, any_record::check);
+        let code = compare(calls, Function::Check, Table(&table), &mut checked, board::check, any_record::check);
         let need = if code == 0 { checked.need.min(2_000) } else { 0 };
         let size = need + random.below(3);
         let words = inputs::words(random, size.saturating_sub(1));

@@ -1,7 +1,7 @@
 //! The rule table of document 01, with the kinds 7 and 8 of document 02, E1, and without bit 31 (E2): the limits, the formula of each row, the check,
-//! spans and need; and the list of the rows that are judged (E4).
+//! spans and need; and the list of the rows that are judged (E4). A table has up to 256 rows (E6).
 
-pub const ROW_LIMIT: usize = 64;
+pub const ROW_LIMIT: usize = 256;
 pub const KINDS: u32 = 9;
 /// The bits that a rule may name.
 pub const BITS: u32 = 31;
@@ -12,6 +12,10 @@ pub const TIME_LIMIT: u64 = 281_474_976_710_655;
 pub const LIST_LIMIT: usize = 16;
 
 const NUMBERS: usize = 5;
+
+/// What the check is lent to read.
+#[derive(Clone, Copy, Debug)]
+pub struct Table<'a>(pub &'a [u32]);
 
 /// What start and every call are lent to read: the table, and the list of the rows that are judged.
 #[derive(Clone, Copy, Debug)]

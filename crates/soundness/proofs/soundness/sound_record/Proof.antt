@@ -60,8 +60,7 @@ returns-2 : tie.Need-returns-2
 returns-2 c =
     let r = c .before .before in
     let e = r .before .before .before in
-    rw (c .zero-past .ensures, at-start e .pre .1)
-    (sound-by-past _ _ _ (counted e) (timely (r .before)) (rows-told r ∙ c .before .if3 .taken))
+    c .zero-past .ensures ∙ sound-by-past _ _ _ (counted e) (timely (r .before)) (rows-told r ∙ c .before .if3 .taken)
 
 returns-3 : tie.Need-returns-3
 returns-3 c =

@@ -1,42 +1,44 @@
--- `soundness::soundness::zero_past` meets its contract. The loop's invariant: every entry passed is 0. The measure is what is left of the entries.
--- Assumes nothing.
-use mathlib.Core.Bool.{true}
+-- `soundness::soundness::zero_past` meets its contract. The loop's invariant: what was put together of the entries passed is 0 where all of them are. The measure is
+-- what is left of the entries. Assumes nothing.
+use mathlib.Core.Bool.{_&&_}
 use mathlib.Core.Path.{_≡_, sym}
 use Prim.Native.Nat.{_-_, _≤_}
 use native.Mathlib.Omega.{arith}
+use borrow.Author.Tests.{eq-eqb, ne-eqb}
+use lib.Dec.{eqb}
 use Rattle.rules.specs.Limits.{rowLimit}
 use Rattle.soundness.specs.Soundness.{every, zeroPast?}
-use Rattle.soundness.proofs.SoundnessLaws.{every-not, every-more, none-past, past-true, past-counted, past-zero}
+use Rattle.soundness.proofs.SoundnessLaws.{none-past, past-more}
 use Rattle.soundness.proofs.soundness.zero_past.Statement.{statement}
 use Rattle.soundness.proofs.soundness.zero_past.Tie as tie
 
 abbrev Inv-loop : tie.InvT-loop
-Inv-loop rows truths counts row₀ row = (rows ≤ row) × (row ≤ rowLimit) × (every row (zeroPast? rows truths counts) ≡ true)
+Inv-loop rows truths counts truth-bits₀ count-bits₀ row₀ truth-bits count-bits row =
+    (rows ≤ row) × (row ≤ rowLimit) × ((eqb truth-bits 0 && eqb count-bits 0) ≡ every row (zeroPast? rows truths counts))
 
 abbrev μ-loop : tie.MeasureT-loop
-μ-loop rows truths counts row₀ row = rowLimit - row
+μ-loop rows truths counts truth-bits₀ count-bits₀ row₀ truth-bits count-bits row = rowLimit - row
 
 loop-holds : tie.Need-loop-holds Inv-loop μ-loop
-loop-holds c = (omega arith, c .pre, none-past _ _ _)
+loop-holds c = (omega arith, c .pre, sym (none-past _ _ _))
 
-element-copy-out-if1 : tie.Need-element-copy-out-if1 Inv-loop μ-loop
-element-copy-out-if1 c = omega arith
+cast-loop : tie.Need-cast-loop Inv-loop μ-loop
+cast-loop c = omega arith
 
-returns : tie.Need-returns Inv-loop μ-loop
-returns c =
-    let d = c .before .before .before in
-    sym (every-not rowLimit _ _ (omega arith) (past-true _ _ _ (d .loop .inv .0) (c .if1 .taken)))
+cast-truth-bits : tie.Need-cast-truth-bits Inv-loop μ-loop
+cast-truth-bits c = omega arith
 
-mul-if2 : tie.Need-mul-if2 Inv-loop μ-loop
-mul-if2 c = omega arith
+element-copy-out-truth-bits : tie.Need-element-copy-out-truth-bits Inv-loop μ-loop
+element-copy-out-truth-bits c = omega arith
 
-element-copy-out-if2 : tie.Need-element-copy-out-if2 Inv-loop μ-loop
-element-copy-out-if2 c = omega arith
+cast-count-bits : tie.Need-cast-count-bits Inv-loop μ-loop
+cast-count-bits c = omega arith
 
-returns-2 : tie.Need-returns-2 Inv-loop μ-loop
-returns-2 c =
-    let d = c .before .before .before .before .before in
-    sym (every-not rowLimit _ _ (omega arith) (past-counted _ _ _ (d .loop .inv .0) (c .before .before .if1 .left) (c .if2 .taken)))
+mul-count-bits : tie.Need-mul-count-bits Inv-loop μ-loop
+mul-count-bits c = omega arith
+
+element-copy-out-count-bits : tie.Need-element-copy-out-count-bits Inv-loop μ-loop
+element-copy-out-count-bits c = omega arith
 
 add-row : tie.Need-add-row Inv-loop μ-loop
 add-row c = omega arith
@@ -46,13 +48,18 @@ loop-less c = omega arith
 
 loop-again : tie.Need-loop-again Inv-loop μ-loop
 loop-again c =
-    let d = c .before .before .before .before .before in
-    (omega arith, omega arith, every-more _ _ (d .loop .inv .2) (past-zero _ _ _ (d .loop .inv .0) (c .before .before .if1 .left) (c .if2 .left)))
+    let l = c .before .before .before .loop in
+    (omega arith, omega arith, past-more _ _ _ (l .truth-bits) (l .count-bits) (l .inv .0) (l .inv .2))
 
-returns-3 : tie.Need-returns-3 Inv-loop μ-loop
-returns-3 c =
-    let all : c .before .loop .row ≡ rowLimit = omega arith in
-    sym (rw all at (c .before .loop .inv .2))
+returns : tie.Need-returns Inv-loop μ-loop
+returns c =
+    let all : c .before .before .loop .row ≡ rowLimit = omega arith in
+    rw (← all, ← c .before .before .loop .inv .2, eq-eqb _ _ (c .if1 .taken))
+
+returns-2 : tie.Need-returns-2 Inv-loop μ-loop
+returns-2 c =
+    let all : c .before .before .loop .row ≡ rowLimit = omega arith in
+    rw (← all, ← c .before .before .loop .inv .2, ne-eqb _ _ (c .if1 .left))
 
 pub zero-past-spec : {M : Type 1} → statement M
 zero-past-spec =
@@ -61,12 +68,14 @@ zero-past-spec =
     Inv-loop
     μ-loop
     loop-holds
-    element-copy-out-if1
-    returns
-    mul-if2
-    element-copy-out-if2
-    returns-2
+    cast-loop
+    cast-truth-bits
+    element-copy-out-truth-bits
+    cast-count-bits
+    mul-count-bits
+    element-copy-out-count-bits
     add-row
     loop-less
     loop-again
-    returns-3)
+    returns
+    returns-2)
