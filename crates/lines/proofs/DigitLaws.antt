@@ -5,9 +5,9 @@ use mathlib.Core.Path.{_≡_, sym, _∙_}
 use Prim.Native.Nat.{ℕ, zero, suc, _+_, _-_, _^_, _≤_, _<_}
 use native.Mathlib.Nat.{pow-suc, pow-le-pow-right}
 use native.Mathlib.Omega.{arith}
-use borrow.Author.Tests.{leb-true, leb-false, le-leb, lt-leb}
-use lib.Dec.{leb, lit<}
-use Rattle.lines.specs.Digits.{byteAt, byte0, byte9, byteA, byteF, isDigit, digitValue, digitsAt, hexAt}
+use borrow.Author.Tests.{ltb-true, ltb-false, leb-true, leb-false, le-leb, lt-leb}
+use lib.Dec.{leb, ltb, lit<}
+use Rattle.lines.specs.Digits.{byteAt, byte0, byte9, byteA, byteF, base, valueA, isDigit, digitValue, digitByte, digitsAt, hexAt}
 use Rattle.meaning.proofs.Truths.{no-truth}
 use Rattle.meaning.proofs.Truths.{by-test}
 
@@ -55,6 +55,20 @@ digitValue-below byte =
     (λ number. let high : byte ≤ byte9 = leb-true byte byte9 number in rw number (omega arith))
     (λ letter. let from : byteA ≤ byte = range .letter (leb-false byte byte9 letter) in rw letter (omega arith))))
     (λ not. rw not (lit< tt))
+
+-- The digit of a value has that value.
+pub digit-back : (value : ℕ) → value < base → digitValue (digitByte value) ≡ value
+unfolding digitValue digitByte
+digit-back value below =
+    by-test (ltb value valueA)
+    (λ number. let low : value < valueA = ltb-true value valueA number in rw
+    (number, digit-number (byte0 + value) (omega arith) (omega arith), le-leb (byte0 + value) byte9 (omega arith)) (omega arith))
+    (λ letter. let high : valueA ≤ value = ltb-false value valueA letter in rw (
+      letter,
+      digit-letter (byteA + (value - valueA)) (omega arith),
+      le-leb (byteA + (value - valueA)) byteF (omega arith),
+      lt-leb (byteA + (value - valueA)) byte9 (omega arith),
+    ) (omega arith))
 
 pub hexAt-below : (text : List ℕ) (place n : ℕ) → hexAt text place n < 16 ^ n
 unfolding hexAt

@@ -23,6 +23,13 @@ pub and-right : (a b : Bool) → (a && b) ≡ true → b ≡ true
 and-right true b h = h
 and-right false b h = absurd (no-truth h)
 
+-- Of two pairs, the firsts and the seconds.
+pub and-pairs : (a b c d : Bool) → ((a && b) && (c && d)) ≡ ((a && c) && (b && d))
+and-pairs false b c d = refl
+and-pairs true true c d = refl
+and-pairs true false true d = refl
+and-pairs true false false d = refl
+
 -- Going by the outcome of a test.
 pub by-test : {A : Type 0} (test : Bool) → (test ≡ true → A) → (test ≡ false → A) → A
 by-test true holds fails = holds refl

@@ -17,7 +17,7 @@ use Rattle.rules.specs.Limits.{rowLimit}
 use Rattle.rules.specs.Rows.{rowsOf, numbersAt}
 use Rattle.rules.specs.Stretches.{spansOf, width, offset}
 use Rattle.rules.specs.declared.numbers.Numbers.{Numbers}
-use Rattle.meaning.proofs.Truths.{by-test, and-false, and-left, and-right}
+use Rattle.meaning.proofs.Truths.{by-test, and-false, and-left, and-right, and-pairs}
 use Rattle.rules.proofs.StretchesLaws.{stretch-before}
 use Rattle.spans.specs.Layout.{spansFrom, zeros?}
 use Rattle.sound_spans.specs.StretchSound.{soundFrom?, soundEndless?, soundSpans?, soundStretch?}
@@ -120,12 +120,6 @@ pub rows-counted : (table store : List ℕ) (seen clock last count rows : ℕ) (
     → answer ≡ every rows (soundRow? table store (recordOf seen clock last rows truths counts))
     → every (rowsOf table) (soundRow? table store (recordOf seen clock last count truths counts)) ≡ answer
 rows-counted table store seen clock last count rows truths counts same counted told = rw (told, ← counted, same)
-
-and-pairs : (w x y z : Bool) → ((w && x) && (y && z)) ≡ ((w && y) && (x && z))
-and-pairs false x y z = refl
-and-pairs true true y z = refl
-and-pairs true false true z = refl
-and-pairs true false false z = refl
 
 -- Two numbers put together by their bits are 0 where both are.
 or-zero : (x y : ℕ) → eqb (bitOr x y) 0 ≡ (eqb x 0 && eqb y 0)

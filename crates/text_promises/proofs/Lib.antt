@@ -7,4 +7,5 @@ pub mod Meaning
 pub mod JoinedLaws
 pub mod TextGoesOn
 pub mod LineTimes
+pub mod RowNumbers
 pub mod WholeCase

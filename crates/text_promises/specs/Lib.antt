@@ -4,4 +4,5 @@ pub mod Cutting
 pub mod Meaning
 pub mod TextGoesOn
 pub mod LineTimes
+pub mod RowNumbers
 pub mod WholeCase
