@@ -43,11 +43,11 @@ for capture in "${captures[@]}"; do
     esac
 done
 
-# Lines read back: the digits of each rule line and list line of the good captures, and of each frame of one, as numbers, give the same line. `uses` says
-# where in a line the numbers stand that a kind uses: first digit and count.
+# Lines read back: the digits of each rule line and list line of the good captures, and of each frame of one, as numbers, give the same line. Of the longest
+# table, whose lanes are alike, the last lane and the list will do. `uses` says where in a line the numbers stand that a kind uses: first digit and count.
 uses=('' '2:2' '2:2' '2:2 4:2' '2:2 4:2' '2:2 6:8 14:8' '2:2 4:2 6:8 14:8' '2:2 6:8 14:8' '2:2 6:8 14:8')
 lines=$(
-    awk 'FNR == 1 { rules = 1 } /^$/ { rules = 0 } rules' "${good[@]}" | sort -u
+    awk 'FNR == 1 { rules = 1 } /^$/ { rules = 0 } rules && (FILENAME !~ /both-ends/ || FNR > 135)' "${good[@]}" | sort -u
     sed '1,/^$/d' examples/false-start.in
 )
 for line in $lines; do
