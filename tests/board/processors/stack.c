@@ -51,9 +51,16 @@ static const struct {
 
 static int deepest[FUNCTIONS];
 
+#if defined(__wasm__)
+/* The library's own stack, in linear memory; arguments and return addresses stand elsewhere there. wasm.mjs has it. */
+uint8_t *library_stack(void);
+#endif
+
 __attribute__((always_inline)) static inline volatile uint8_t *stack_pointer(void) {
     volatile uint8_t *at;
-#if defined(__x86_64__)
+#if defined(__wasm__)
+    at = library_stack();
+#elif defined(__x86_64__)
     __asm__ __volatile__("mov %%rsp, %0" : "=r"(at));
 #else
     __asm__ __volatile__("mov %0, sp" : "=r"(at));
