@@ -7,7 +7,7 @@ use soundness::record::Record;
 ghost use Rattle.soundness.specs.Setup.{setupOf};
 ghost use Rattle.board.specs.Left.{StartLeaves};
 
-// Refusals 1 to 3, 10 and 4, and an all-zero record; or a record that has seen no event, its clock 0, and zeros in the words of the need.
+// Refusals 1 to 3, 10, 11 and 4, and an all-zero record; or a record that has seen no event, its clock 0, and zeros in the words of the need.
 #[no_mangle]
 pub extern "C" fn muk_start(
     table: &[u32],

@@ -19,6 +19,7 @@ table-numbered (Refusing.three lengths r lower rows right wrong) = (omega arith,
 start-numbered : {setup : Setup} {size : ℕ} {fault : Refused} → StartRefused setup size fault → Numbered fault
 start-numbered (Refusing.table wrong) = table-numbered wrong
 start-numbered (Refusing.ten right wrong) = (omega arith, omega arith)
+start-numbered (Refusing.eleven right listed r lower reached dead) = (omega arith, omega arith)
 start-numbered (Refusing.four right listed short) = (omega arith, omega arith)
 
 call-numbered : {setup : Setup} {store : List ℕ} {found : Record} {c : Call} {fault : Refused} → CallRefused setup store found c fault → Numbered fault

@@ -5,7 +5,7 @@ use native.Mathlib.Omega.{arith}
 use Prim.Native.Nat.{ℕ, _*_, _≤_, _<_, _%_}
 use Rattle.refusals.specs.Refusals.{Refused, refused, rowIn}
 use Rattle.refusals.specs.declared.refusal.Refusal.{Refusal}
-use Rattle.refusals.specs.declared.refusal.Refusal.the-variants.{Length, Row, Limits, Store, Earlier, Late, Unsound, BadLine, BadSum, RowList}
+use Rattle.refusals.specs.declared.refusal.Refusal.the-variants.{Length, Row, Limits, Store, Earlier, Late, Unsound, BadLine, BadSum, RowList, DeadRow}
 use Rattle.monitor.specs.Step.{Reply, verdict, clockMoved, refusal}
 use Rattle.codes.specs.Code.{verdictRoom, numberRoom, movedCode, refusalCode, codeOf, numberTold, IsRefusal}
 
@@ -28,6 +28,7 @@ numbered Unsound = (omega arith, omega arith)
 numbered BadLine = (omega arith, omega arith)
 numbered BadSum = (omega arith, omega arith)
 numbered RowList = (omega arith, omega arith)
+numbered (DeadRow row) = (omega arith, omega arith)
 
 -- A verdict and a moved clock tell the number 0; a refusal tells its own, and its row in the bits below.
 pub verdict-tag : (number : ℕ) → number < verdictRoom → numberTold (codeOf (verdict number)) ≡ 0

@@ -10,7 +10,7 @@ use lib.ListN.{length, getD, List·getD-map, List·getD-eq-default}
 use Rattle.meaning.proofs.Tells.{Tells, tells-ltb, tells-eqb}
 use Rattle.meaning.proofs.Truths.{no-truth, and-left, and-right}
 use Rattle.meaning.specs.Heartbeat.{heartbeatBit}
-use Rattle.kinds.specs.Kinds.{Rule, plain, stretch, Kind, kind, kinds, kindAt, hasStretch, ownsStretch, columnsOf, plainOf, kindLine, fits}
+use Rattle.kinds.specs.Kinds.{Rule, plain, stretch, Kind, kind, kinds, kindAt, hasStretch, ownsStretch, columnsOf, plainOf, kindLine, isLower, fits}
 use Rattle.kinds.specs.declared.table.Use.{Use}
 use Rattle.kinds.specs.declared.table.Use.the-variants.{Unused, Bit, Lower, Limit}
 use Rattle.kinds.specs.declared.table.KindLine.{KindLine}
@@ -46,12 +46,6 @@ bare-rule (plain says) h = refl
 bare-rule (stretch columns) h = absurd (no-truth (sym h))
 
 -- What a rule asks of the line that has it: the rows that it speaks of are used as lower rows, and its bit as a bit.
-abbrev pub isLower : Use → Bool
-isLower Unused = false
-isLower Bit = false
-isLower Lower = true
-isLower Limit = false
-
 abbrev pub isBit : Use → Bool
 isBit Unused = false
 isBit Bit = true

@@ -108,6 +108,13 @@ kindLine k =
 unfoldable pub useOf : KindLine → ℕ → Use
 useOf line field = cond (eqb field 1) (line .0) (cond (eqb field 2) (line .1) (cond (eqb field 3) (line .2) (line .3)))
 
+-- Which numbers name a lower row.
+abbrev pub isLower : Use → Bool
+isLower Unused = false
+isLower Bit = false
+isLower Lower = true
+isLower Limit = false
+
 -- "x or y not lower, bit over 31, unused not 0" is a number that does not fit its use; "refusal 2 now refuses bit 31 in a rule" (document 02, E2).
 -- Limits are judged later.
 abbrev pub fits : ℕ → Use → ℕ → Bool

@@ -2,7 +2,7 @@
 // no stretch.
 
 ghost use mathlib.Core.Path.{_≡_};
-ghost use Rattle.kinds.specs.Kinds.{kindAt, known, kindLine, useOf, fits};
+ghost use Rattle.kinds.specs.Kinds.{kindAt, known, kindLine, useOf, isLower, fits};
 use crate::plain::Plain;
 use crate::stretch::Feed;
 use crate::stretch::Keep;
@@ -126,6 +126,18 @@ pub fn use_of(line: KindLine, field: usize) -> Use
         2 => line.1,
         3 => line.2,
         _ => line.3,
+    }
+}
+
+// Whether a number that is used so names a lower row.
+pub fn is_lower(usage: Use) -> bool
+    ensures { λ r. ⌜ r ≡ isLower usage ⌝ }
+{
+    match usage {
+        Use::Unused => false,
+        Use::Bit => false,
+        Use::Lower => true,
+        Use::Limit => false,
     }
 }
 

@@ -9,6 +9,10 @@ pub record Tells (test : Bool) (A : Type 0) : Type 0 where
   pub sound : T test → A
   pub complete : A → T test
 
+-- A flag tells that it is set.
+pub tells-flag : (flag : Bool) → Tells flag (T flag)
+tells-flag flag = record { sound = λ set. set; complete = λ set. set }
+
 pub tells-leb : (m n : ℕ) → Tells (leb m n) (m ≤ n)
 tells-leb m n = record { sound = leb→le m n; complete = le→leb m n }
 

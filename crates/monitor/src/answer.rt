@@ -17,7 +17,7 @@ pub struct Judged {
     pub record: Record,
 }
 
-// The answer to a start: good, with the words of the need, or a refusal 1 to 3, 10 or 4.
+// The answer to a start: good, with the words of the need, or a refusal 1 to 3, 10, 11 or 4.
 pub enum StartAnswer {
     Good { need: u64 },
     Refused(Refusal),

@@ -9,7 +9,7 @@ use spans::words::clear_words;
 ghost use Rattle.soundness.specs.Setup.{setupOf};
 ghost use Rattle.monitor.specs.Start.{StartGives};
 
-// The need and a record with nothing seen, or a refusal 1 to 3, 10 or 4 and an all-zero record. A good start writes 0 to every word of the need and no other.
+// The need and a record with nothing seen, or a refusal 1 to 3, 10, 11 or 4 and an all-zero record. A good start writes 0 to every word of the need and no other.
 pub fn start(table: &[u32], list: &[u32], store: &mut [u64]) -> Started
     ensures { λ r. ⌜ StartGives (setupOf (now (table .entry)) (now (list .entry))) (now (store .entry)) r (now (store .exit)) ⌝ }
 {

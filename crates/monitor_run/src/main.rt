@@ -75,10 +75,10 @@ const ONCE_EVER: [u32; 15] = [1, 0, 0, 0, 0, 0, 0, 0, 0, 0, 6, 1, 0, 1000, NO_EN
 // The last of three rows.
 const THIRD: [u32; 1] = [2];
 
-// The first sixteen rows, and one more than a list may have.
-const SIXTEEN: [u32; 16] = [0, 1, 2, 3, 4, 5, 6, 7, 8, 9, 10, 11, 12, 13, 14, 15];
-
+// Seventeen rows, and all but the first of them, as many as a list may have.
 const SEVENTEEN: [u32; 17] = [0, 1, 2, 3, 4, 5, 6, 7, 8, 9, 10, 11, 12, 13, 14, 15, 16];
+
+const SIXTEEN: [u32; 16] = [1, 2, 3, 4, 5, 6, 7, 8, 9, 10, 11, 12, 13, 14, 15, 16];
 
 fn main() {
     tables();
@@ -89,6 +89,7 @@ fn main() {
     clocks();
     lists();
     refused_lists();
+    dead_rows();
     other_lists();
     reader(b"00020000000103\n00ab00000000ab\n00050000000006\n0007000000000");
 }
@@ -210,7 +211,7 @@ fn clocks() {
     );
 }
 
-// Two rows judged at once, p and the last; sixteen, all of them true; seventeen, which are refused.
+// Two rows judged at once, p and the last; sixteen, all of them true, the last of which is "row 0 or row 0"; seventeen, which are refused.
 fn lists() {
     say(b"-- p since [2,3] q, p judged beside it\n");
     stream(
@@ -220,7 +221,8 @@ fn lists() {
         &[0, Q, P, P, P + Q, P],
     );
     say(b"-- true in 17 rows, 16 of them judged, and 17\n");
-    let table = [0; 17 * ROW_NUMBERS];
+    let mut table = [0; 17 * ROW_NUMBERS];
+    table[16 * ROW_NUMBERS] = 4;
     stream(&table, &SIXTEEN, &[1], &[0]);
     stream(&table, &SEVENTEEN, &[1], &[0]);
 }
@@ -241,16 +243,30 @@ fn refused_lists() {
     begin(&SIX_WORDS, &[], store);
 }
 
-// The record and the store hold every row, so each call may have a list of its own; one that does not pass changes nothing.
+// Refusal 11, with the lowest row that is dead; 10 is before it, and 4 after it.
+fn dead_rows() {
+    say(b"-- p since [2,3] q, starts: p and q alone listed, q alone, p alone\n");
+    let mut space = [9; 5];
+    let store: &mut [u64] = &mut space;
+    begin(&SINCE, &[0, 1], store);
+    begin(&SINCE, &[1], store);
+    begin(&SINCE, &[0], store);
+    say(b"-- q twice, and q on too few words\n");
+    begin(&SINCE, &[1, 1], store);
+    begin(&SIX_WORDS, &[1], store);
+}
+
+// The record and the store hold every row, so each call may have a list of its own; one that does not pass, or leaves a row dead, changes nothing.
 fn other_lists() {
     say(b"-- p since [2,3] q, by another list with each call\n");
     let mut space = [9; 5];
     let store: &mut [u64] = &mut space;
     let begun = begin(&SINCE, &THIRD, store);
     let two = run(&SINCE, &THIRD, store, begun, &[1, 2], &[0, Q]);
-    let three = call(&SINCE, &[0, 1], store, two, 3, P);
+    let three = call(&SINCE, &[0, 2], store, two, 3, P);
     let none = call(&SINCE, &[], store, three, 4, P);
-    let four = call(&SINCE, &[0, 1, 2], store, none, 4, P);
+    let dead = call(&SINCE, &[0, 1], store, none, 4, P);
+    let four = call(&SINCE, &[0, 1, 2], store, dead, 4, P);
     call(&SINCE, &[2, 3], store, four, 5, P);
     run(&SINCE, &THIRD, store, four, &[5, 6], &[P + Q, P]);
 }

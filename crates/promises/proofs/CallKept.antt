@@ -19,7 +19,7 @@ use Rattle.soundness.specs.Setup.{Setup}
 use Rattle.monitor.specs.Step.{Call, timeOf, maskOf, refusalOf, verdictOf, verdict, clockMoved, refusal, stepOf}
 use Rattle.promises.specs.Stream.{State, call, next, accepted?, Keeps, keeps?, eventOf, Beats}
 use Rattle.promises.proofs.Invariant.{Invariant}
-use Rattle.promises.specs.Conditions.{ListRight}
+use Rattle.promises.specs.Conditions.{ListServes}
 use Rattle.promises.specs.Refusing.{six, five}
 use Rattle.promises.proofs.TableRefusals.{ready-of}
 use Rattle.promises.proofs.Refusing.{call-passes, refused-exactly, refusal-changes-nothing}
@@ -32,7 +32,7 @@ pub refused-same : (setup : Setup) (s : State) (c : Call) {fault : Refused} → 
 refused-same setup s c {fault} refused =
     let (left, words) = refusal-changes-nothing .call setup (s .store) (s .found) c fault refused in rw (left, words)
 
-module _ {setup : Setup} {h : History} {clock : ℕ} {s : State} (listed : ListRight (setup .table) (setup .list)) (inv : Invariant (setup .table) h clock s)
+module _ {setup : Setup} {h : History} {clock : ℕ} {s : State} (listed : ListServes (setup .table) (setup .list)) (inv : Invariant (setup .table) h clock s)
     (c : Call) where
   -- The time of the call is the stream's.
   time-same : timeOf (clockOf (s .found)) c ≡ timeOf clock c
@@ -119,7 +119,7 @@ module _ {setup : Setup} {h : History} {clock : ℕ} {s : State} (listed : ListR
 
 -- Any call keeps the invariant, of the true events among those kept, with its own where it is kept.
 pub next-kept : (setup : Setup)
-    → ListRight (setup .table) (setup .list)
+    → ListServes (setup .table) (setup .list)
     → (all : List Event) (s : State)
     → Invariant (setup .table) (trueEvents all) (lastTime all) s
     → (c : Call)

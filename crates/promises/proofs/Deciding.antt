@@ -7,7 +7,7 @@ use native.Mathlib.Nat.{eq-or-lt-of-le, le-of-suc-le-suc}
 use native.Mathlib.Omega.{arith}
 use lib.Dec.{T}
 use Rattle.meaning.proofs.Truths.{no-truth}
-use Rattle.meaning.proofs.Tells.{Tells, tells-and, tells-same, told-false}
+use Rattle.meaning.proofs.Tells.{Tells, tells-flag, tells-and, tells-same, told-false}
 use Rattle.refusals.specs.Refusals.{Refused}
 use Rattle.soundness.specs.Soundness.{every}
 
@@ -38,10 +38,7 @@ tells-every (suc n) test A told =
     (λ all. (λ row lower. all row (omega arith), all n (omega arith)))
     (tells-and (tells-every n test A (λ row lower. told row (omega arith))) (told n (omega arith)))
 
--- A flag tells that it is set; and what holds where it is not.
-pub tells-flag : (flag : Bool) → Tells flag (T flag)
-tells-flag flag = record { sound = λ set. set; complete = λ set. set }
-
+-- What holds where a flag is not set.
 pub not-set : (flag : Bool) → ¬ T flag → flag ≡ false
 not-set flag none = told-false (tells-flag flag) none
 

@@ -8,7 +8,7 @@ use Prim.Native.Nat.{ℕ, zero, suc, _+_, _-_, _/_, _≤_, _<_}
 use native.Mathlib.Nat.{div-mul-le-self}
 use native.Mathlib.Omega.{arith}
 use lib.ListN.{length, getD, drop, length-append}
-use borrow.Author.Tests.{le-leb}
+use borrow.Author.Tests.{le-leb, le-ltb}
 use Rattle.meaning.specs.Interval.{End, upTo, noEnd, endOf}
 use Rattle.meaning.specs.History.{History}
 use Rattle.meaning.specs.Heartbeat.{trueEvents}
@@ -28,6 +28,7 @@ use Rattle.rules.specs.RowFormula.{below, formulaOf}
 use Rattle.rules.specs.Table.{lengthPasses, rowPasses, limitsPass, faultOf, firstFault, passed, checkOf}
 use Rattle.rules.proofs.PassedLaws.{range-cases, range-order}
 use Rattle.times.specs.Times.{timeLimit}
+use Rattle.dead_rows.specs.DeadRows.{reaches, reached?, lowestNot, lowestDead}
 use Rattle.soundness.specs.Setup.{Setup, setupOf}
 use Rattle.soundness.specs.Ready.{readyOf}
 use Rattle.monitor.specs.Start.{startOf}
@@ -159,13 +160,14 @@ runs-fill a b limits =
 module _
     (kind a b : ℕ) (limits : LimitsRight a b) (table : List ℕ) (row : ℕ) (columns : Stretch)
     (passes : checkOf table ≡ passed (rowsOf table) (needOf table))
+    (reached : lowestDead table (row ∷ []) (rowsOf table) ≡ rowsOf table)
     (rule : ruleOf (numbersAt table row) ≡ stretch columns)
     (inside : row < rowsOf table)
     (once-p : (h : History) (time : ℕ) (S : List Span)
     → RowRuns table row columns h time S
     → Runs (Holds truth) (Holds (bit 0)) a (endOf b) h time S)
   where
-    -- The row alone is listed.
+    -- The row alone is listed, and reaches the others.
     abbrev setup : Setup
     setup = setupOf table (row ∷ [])
 
@@ -175,6 +177,8 @@ module _
         rw (
           passes,
           told-true (list-told table (row ∷ [])) (alone-right table row inside),
+          reached,
+          le-ltb (rowsOf table) (rowsOf table) (omega arith),
           exactly,
           le-leb (needOf table) (needOf table) (omega arith),
         )
@@ -220,16 +224,16 @@ plainRow kind = kind ∷ 0 ∷ 0 ∷ 0 ∷ 0 ∷ []
 -- Such a row for each kind: "true since p" after "p" and "true"; "once p" after "p"; "always not p" after "p" and "not p", whose x is false at the
 -- events with p, which feed it.
 filled-by-kind : (kind a b : ℕ) → SinceKind kind → LimitsRight a b → Filled kind a b
-unfolding numbersAt kindAt formulaOf below checkOf lengthPasses firstFault faultOf rowPasses
+unfolding numbersAt kindAt formulaOf below checkOf lengthPasses firstFault faultOf rowPasses lowestNot reached? reaches
 filled-by-kind kind a b (inl six) limits = rw six
     (filled 6 a b limits (plainRow 1 ++ plainRow 0 ++ (6 ∷ 1 ∷ 0 ∷ a ∷ b ∷ [])) 2 xSinceY
-    (rw (no-limits, told-true (limits-told a b) limits)) refl (omega arith) (λ h time S runs. runs) refl refl refl)
+    (rw (no-limits, told-true (limits-told a b) limits)) refl refl (omega arith) (λ h time S runs. runs) refl refl refl)
 filled-by-kind kind a b (inr (inl seven)) limits = rw seven
     (filled 7 a b limits (plainRow 1 ++ (7 ∷ 0 ∷ 0 ∷ a ∷ b ∷ [])) 1 onceX
-    (rw (no-limits, told-true (limits-told a b) limits)) refl (omega arith) (λ h time S runs. runs) refl refl refl)
+    (rw (no-limits, told-true (limits-told a b) limits)) refl refl (omega arith) (λ h time S runs. runs) refl refl refl)
 filled-by-kind kind a b (inr (inr eight)) limits = rw eight
     (filled 8 a b limits (plainRow 1 ++ plainRow 2 ++ (8 ∷ 1 ∷ 0 ∷ a ∷ b ∷ [])) 2 alwaysX
-    (rw (no-limits, told-true (limits-told a b) limits)) refl (omega arith)
+    (rw (no-limits, told-true (limits-told a b) limits)) refl refl (omega arith)
     (λ h time S. runs-same _ _ _ a (endOf b) h time S not-not-p) refl refl refl)
 
 pub figure-is-reached : FigureIsReached

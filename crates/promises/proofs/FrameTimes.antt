@@ -17,7 +17,7 @@ use Rattle.soundness.specs.Record.{clockOf}
 use Rattle.promises.specs.Stream.{State, call, next, started, accepted?, Keeps, keeps?, eventOf, kept}
 use Rattle.promises.specs.LineTimes.{replies, recordTimes, Every, acceptedTimes}
 use Rattle.promises.specs.FrameTimes.{frameCounters, ofFrames, FrameTimesAreTrue}
-use Rattle.promises.specs.Conditions.{ListRight}
+use Rattle.promises.specs.Conditions.{ListServes}
 use Rattle.promises.proofs.Invariant.{Invariant}
 use Rattle.promises.proofs.StreamLaws.{keeps-cases}
 use Rattle.promises.proofs.StartRight.{start-ready, start-right}
@@ -75,7 +75,7 @@ heard-kept h c keeps =
     (λ within below. absurd (omega (arith, keeps .risen)))
 
 -- One call more.
-module _ {setup : Setup} (listed : ListRight (setup .table) (setup .list)) (h : List Event) {s : State}
+module _ {setup : Setup} (listed : ListServes (setup .table) (setup .list)) (h : List Event) {s : State}
     (inv : Invariant (setup .table) (trueEvents h) (lastTime h) s) where
   on : (c : Call) → Invariant (setup .table) (trueEvents (heard h c)) (lastTime (heard h c)) (next setup s c)
   on c = next-kept setup listed h s inv c (heard h c) refl
@@ -102,7 +102,7 @@ module _ {setup : Setup} (listed : ListRight (setup .table) (setup .list)) (h : 
     timed : Keeps (lastTime h) (frame counter mask) → clockOf (next setup s (frame counter mask) .found) ≡ time
     timed kept = on (frame counter mask) .time ∙ moves kept
 
-module _ (setup : Setup) (listed : ListRight (setup .table) (setup .list)) where
+module _ (setup : Setup) (listed : ListServes (setup .table) (setup .list)) where
   abbrev AllTrue : State → List Call → List ℕ → Type 0
   AllTrue s calls times =
       Every (λ (reply : Reply). T (accepted? reply)) (ofFrames calls (replies setup s calls)) × (ofFrames calls (recordTimes setup s calls) ≡ times)

@@ -6,6 +6,7 @@ pub mod StreamLaws
 pub mod Invariant
 pub mod TableTold
 pub mod ListTold
+pub mod ReachedTold
 pub mod Formulas
 pub mod TableRefusals
 pub mod StretchTold

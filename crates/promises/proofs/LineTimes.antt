@@ -64,6 +64,7 @@ table-not-five (Refusing.three lengths r lower rows right wrong) is-five = omega
 start-not-five : {setup : Setup} {size : ℕ} {fault : Refused} → StartRefused setup size fault → ¬ (fault .number ≡ numberOf Earlier)
 start-not-five (Refusing.table wrong) is-five = table-not-five wrong is-five
 start-not-five (Refusing.ten right wrong) is-five = omega arith
+start-not-five (Refusing.eleven right listed r lower reached dead) is-five = omega arith
 start-not-five (Refusing.four right listed short) is-five = omega arith
 
 frame-not-five : {setup : Setup} {store : List ℕ} {found : Record} {counter mask : ℕ} {fault : Refused}

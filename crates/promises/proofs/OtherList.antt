@@ -1,4 +1,4 @@
--- Of the list a call uses the test and the verdict's bits alone, so two lists that pass leave the same.
+-- Of the list a call uses the tests and the verdict's bits alone, so two lists that serve the table leave the same.
 use mathlib.Core.Bool.{Bool, true, false, cond}
 use mathlib.Core.List.{List, [], _∷_}
 use mathlib.Core.Logic.{⊎-elim}
@@ -8,7 +8,6 @@ use Prim.Native.Nat.{ℕ}
 use native.Mathlib.Omega.{arith}
 use lib.ListN.{length}
 use Rattle.meaning.specs.Heartbeat.{heartbeat?}
-use Rattle.meaning.proofs.Tells.{told-true}
 use Rattle.refusals.specs.Refusals.{Refused}
 use Rattle.soundness.specs.declared.record.Record.{Record}
 use Rattle.soundness.specs.Setup.{setupOf}
@@ -16,10 +15,9 @@ use Rattle.soundness.specs.Ready.{readyOf}
 use Rattle.monitor.specs.Start.{startOf}
 use Rattle.monitor.specs.Step.{Call, maskOf, refusalOf, verdict, clockMoved, momentOf, stepOf}
 use Rattle.promises.specs.Stream.{State, next, after, started}
-use Rattle.promises.specs.Conditions.{ListRight}
+use Rattle.promises.specs.Conditions.{ListServes}
 use Rattle.promises.specs.OtherList.{SameButForBits, OtherList}
-use Rattle.promises.proofs.ListTold.{list-told}
-use Rattle.promises.proofs.TableRefusals.{table-passes, table-refuses, table-decided}
+use Rattle.promises.proofs.TableRefusals.{table-refuses, table-decided, listed-passes}
 use Rattle.promises.proofs.Refusing.{unrefused}
 use Rattle.promises.proofs.StartRight.{start-ready}
 
@@ -28,13 +26,13 @@ still-moved : (beat : Bool) (one another : ℕ) → cond beat clockMoved (verdic
 still-moved true one another moved = refl
 still-moved false one another moved = let clash : _≡_ {A = ℕ} 0 1 = cc in absurd (omega arith)
 
-module _ (table list other : List ℕ) (listed : ListRight table list) (other-listed : ListRight table other) where
+module _ (table list other : List ℕ) (listed : ListServes table list) (other-listed : ListServes table other) where
   same-ready : (size : ℕ) → readyOf (setupOf table list) size ≡ readyOf (setupOf table other) size
   unfolding readyOf
   same-ready size =
       ⊎-elim
       (λ right.
-      rw (table-passes table right, told-true (list-told table list) listed, told-true (list-told table other) other-listed))
+      rw (listed-passes (setupOf table list) size right listed, listed-passes (setupOf table other) size right other-listed))
       (λ wrong. rw (table-refuses table (wrong .0) (wrong .1)))
       (table-decided table)
 

@@ -8,7 +8,7 @@ use native.Mathlib.Omega.{arith}
 use lib.Dec.{T, eqb}
 use lib.ListN.{length, getD}
 use Rattle.meaning.proofs.SpansLaws.{le-or-lt}
-use Rattle.meaning.proofs.Tells.{Tells, tells-leb, tells-ltb, tells-eqb, tells-and, tells-or, tells-same}
+use Rattle.meaning.proofs.Tells.{Tells, tells-flag, tells-leb, tells-ltb, tells-eqb, tells-and, tells-or, tells-same}
 use Rattle.rules.specs.Limits.{rowLimit}
 use Rattle.rules.specs.Rows.{rowsOf, numbersAt}
 use Rattle.rules.specs.Stretches.{spansOf}
@@ -20,7 +20,7 @@ use Rattle.soundness.specs.Soundness.{soundEntry?, soundRow?, zeroPast?, soundT
 use Rattle.row_list.proofs.TruthsLaws.{byte-unset}
 use Rattle.promises.specs.Conditions.{StretchRight, RecordRight}
 use Rattle.promises.proofs.TableRefusals.{TableRoom}
-use Rattle.promises.proofs.Deciding.{tells-and-then, tells-every, tells-flag, set-or, or-unset}
+use Rattle.promises.proofs.Deciding.{tells-and-then, tells-every, set-or, or-unset}
 use Rattle.promises.proofs.StretchTold.{since-or-other, since-spans, other-spans, past-other, row-stretch-told, other-stretch}
 
 pub within-or-past : (table : List ℕ) (row : ℕ) → (row < rowsOf table) ⊎ (rowsOf table ≤ row)

@@ -20,7 +20,9 @@ use Rattle.soundness.specs.declared.record.Record.{Record}
 use Rattle.soundness.specs.Record.{stretchAt, clockOf}
 use Rattle.soundness.specs.Soundness.{every, soundRow?, sound?}
 use Rattle.meaning.proofs.Truths.{by-test}
+use lib.Dec.{ltb}
 use Rattle.row_list.specs.RowList.{listPasses}
+use Rattle.dead_rows.specs.DeadRows.{lowestDead}
 use Rattle.soundness.specs.Ready.{readyOf}
 use Rattle.monitor.specs.Start.{startOf}
 use Rattle.monitor.specs.Event.{Moment, spansAfter, truthOf, truthsAfter, spansJudged, spansClipped, spansNow, countsWith, wordsDone, recordAfter}
@@ -72,12 +74,16 @@ same-ready setup store other alike =
     let passes = table-passes (setup .table) right in
     by-test (listPasses (setup .list) (rowsOf (setup .table)))
     (λ listed.
+    by-test (ltb (lowestDead (setup .table) (setup .list) (rowsOf (setup .table))) (rowsOf (setup .table)))
+    (λ dead. rw (passes, listed, dead))
+    (λ reached.
     rw (
       passes,
       listed,
+      reached,
       le-leb (needOf (setup .table)) (length store) (alike .room),
       le-leb (needOf (setup .table)) (length other) (alike .other-room),
-    ))
+    )))
     (λ unlisted. rw (passes, unlisted)))
     (λ wrong. rw (table-refuses (setup .table) (wrong .0) (wrong .1)))
     (table-decided (setup .table))

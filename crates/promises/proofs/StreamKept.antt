@@ -7,13 +7,13 @@ use Rattle.meaning.specs.Heartbeat.{trueEvents}
 use Rattle.soundness.specs.Setup.{Setup}
 use Rattle.monitor.specs.Step.{Call}
 use Rattle.promises.specs.Stream.{State, Starts, started, after, kept, state, history, clock}
-use Rattle.promises.specs.Conditions.{ListRight}
+use Rattle.promises.specs.Conditions.{ListServes}
 use Rattle.promises.proofs.Invariant.{Invariant}
 use Rattle.promises.proofs.StartRight.{start-ready, start-right}
 use Rattle.promises.proofs.CallKept.{next-kept}
 
 calls-kept : (setup : Setup)
-    → ListRight (setup .table) (setup .list)
+    → ListServes (setup .table) (setup .list)
     → (all : List Event) (s : State) (calls : List Call)
     → Invariant (setup .table) (trueEvents all) (lastTime all) s
     → Invariant (setup .table) (trueEvents (kept all calls)) (lastTime (kept all calls)) (after setup s calls)

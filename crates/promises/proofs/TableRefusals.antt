@@ -1,4 +1,4 @@
--- The check of a table, and of a list and a store's size for it, refuses what the table of refusals says, and passes what is right.
+-- The check of a table, and of a list, the rows that it reaches and a store's size for it, refuses what the table of refusals says, and passes what is right.
 use mathlib.Core.List.{List}
 use mathlib.Core.Logic.{_⊎_, inl, inr, ⊎-elim, ⊎-map}
 use mathlib.Core.Option.{none}
@@ -6,7 +6,7 @@ use mathlib.Core.Path.{_≡_, refl, sym}
 use Prim.Native.Nat.{ℕ, zero, suc, _≤_, _<_}
 use native.Mathlib.Nat.{eq-or-lt-of-le, le-of-suc-le-suc}
 use native.Mathlib.Omega.{arith}
-use borrow.Author.Tests.{le-leb, lt-leb}
+use borrow.Author.Tests.{le-leb, lt-leb, lt-ltb, le-ltb}
 use lib.ListN.{length}
 use Rattle.meaning.proofs.SpansLaws.{le-or-lt}
 use Rattle.meaning.proofs.Tells.{tells-passed, tells-decided, told-true, told-false}
@@ -14,15 +14,16 @@ use Rattle.refusals.specs.Refusals.{Refused, refused}
 use Rattle.rules.specs.Rows.{rowsOf, numbersAt}
 use Rattle.rules.specs.Stretches.{offset, needOf}
 use Rattle.rules.specs.Table.{firstFault, passed, refusedBy, checkOf}
-use Rattle.refusals.specs.declared.refusal.Refusal.the-variants.{Length, Row, Limits, Store, RowList}
+use Rattle.refusals.specs.declared.refusal.Refusal.the-variants.{Length, Row, Limits, Store, RowList, DeadRow}
 use Rattle.rules.proofs.TableLaws.{fault-row, fault-limits, fault-none, first-at, whole-rows-told, SoFar, refused-at, passed-at, refused-length}
 use Rattle.rules.specs.declared.numbers.Numbers.{Numbers}
 use Rattle.soundness.specs.Setup.{Setup}
-use Rattle.soundness.specs.Ready.{readyOf}
-use Rattle.promises.specs.Conditions.{LengthRight, RowRight, LimitsRight, RowsRight, TableRight, ListRight, Ready}
-use Rattle.promises.specs.Refusing.{TableRefused, one, two, three, StartRefused, table, ten, four}
+use Rattle.soundness.specs.Ready.{withList, withReached, readyOf}
+use Rattle.promises.specs.Conditions.{LengthRight, RowRight, LimitsRight, RowsRight, TableRight, ListServes, Ready}
+use Rattle.promises.specs.Refusing.{TableRefused, one, two, three, StartRefused, table, ten, eleven, four}
 use Rattle.promises.proofs.TableTold.{length-told, row-told, limits-told}
 use Rattle.promises.proofs.ListTold.{list-told}
+use Rattle.promises.proofs.ReachedTold.{dead-is, none-dead, reached-decided}
 
 module _ (rules : List ℕ) where
   rows-no-fault : (n : ℕ) → RowsRight rules n → firstFault rules n ≡ none
@@ -118,30 +119,41 @@ pub record TableRoom (rules : List ℕ) (size : ℕ) : Type 0 where
 pub room-of : {setup : Setup} {size : ℕ} → Ready setup size → TableRoom (setup .table) size
 room-of ready = record { right = ready .right; room = ready .room }
 
-pub ready-of : {setup : Setup} {size : ℕ} → ListRight (setup .table) (setup .list) → TableRoom (setup .table) size → Ready setup size
+pub ready-of : {setup : Setup} {size : ℕ} → ListServes (setup .table) (setup .list) → TableRoom (setup .table) size → Ready setup size
 ready-of listed room = record { right = room .right; listed = listed; room = room .room }
 
 -- With a list and a store of a size.
 module _ (setup : Setup) (size : ℕ) where
+  -- What is left to decide of a list that serves the table.
+  pub listed-passes : TableRight (setup .table)
+      → ListServes (setup .table) (setup .list)
+      → withReached (setup .table) (setup .list) (withList (setup .list) (checkOf (setup .table)))
+      ≡ passed (rowsOf (setup .table)) (needOf (setup .table))
+  listed-passes right listed =
+      rw (
+        table-passes (setup .table) right,
+        told-true (list-told (setup .table) (setup .list)) (listed .right),
+        none-dead (setup .table) (setup .list) right (listed .right) (listed .reached),
+        le-ltb (rowsOf (setup .table)) (rowsOf (setup .table)) (omega arith),
+      )
+
   pub start-refuses : (fault : Refused) → StartRefused setup size fault → readyOf setup size ≡ refusedBy fault
   unfolding readyOf
   start-refuses fault (table wrong) = rw (table-refuses (setup .table) fault wrong)
   start-refuses _ (ten right wrong) = rw (table-passes (setup .table) right, told-false (list-told (setup .table) (setup .list)) wrong)
-  start-refuses _ (four right listed short) =
+  start-refuses _ (eleven right listed r lower reached dead) =
       rw (
         table-passes (setup .table) right,
         told-true (list-told (setup .table) (setup .list)) listed,
-        lt-leb (needOf (setup .table)) size short,
+        dead-is (setup .table) (setup .list) right listed r lower reached dead,
+        lt-ltb r (rowsOf (setup .table)) lower,
       )
+  start-refuses _ (four right listed short) =
+      rw (listed-passes right listed, lt-leb (needOf (setup .table)) size short)
 
   pub start-passes : Ready setup size → readyOf setup size ≡ passed (rowsOf (setup .table)) (needOf (setup .table))
   unfolding readyOf
-  start-passes ready =
-      rw (
-        table-passes (setup .table) (ready .right),
-        told-true (list-told (setup .table) (setup .list)) (ready .listed),
-        le-leb (needOf (setup .table)) size (ready .room),
-      )
+  start-passes ready = rw (listed-passes (ready .right) (ready .listed), le-leb (needOf (setup .table)) size (ready .room))
 
   pub start-decided : Ready setup size ⊎ ((fault : Refused) × StartRefused setup size fault)
   start-decided =
@@ -149,10 +161,16 @@ module _ (setup : Setup) (size : ℕ) where
       (λ right.
       ⊎-elim
       (λ listed.
+      ⊎-elim
+      (λ reached.
+      let serves : ListServes (setup .table) (setup .list) = record { right = listed; reached = reached } in
       ⊎-map
-      (λ room. record { right = right; listed = listed; room = room })
-      (λ short. (refused Store, four right listed short))
+      (λ room. record { right = right; listed = serves; room = room })
+      (λ short. (refused Store, four right serves short))
       (le-or-lt (needOf (setup .table)) size))
+      (λ lowest.
+      inr (refused (DeadRow (lowest .row)), eleven right listed (lowest .row) (lowest .within) (lowest .below) (lowest .dead)))
+      (reached-decided (setup .table) (setup .list) right listed))
       (λ wrong. inr (refused RowList, ten right wrong))
       (tells-decided (list-told (setup .table) (setup .list))))
       (λ wrong. inr (wrong .0, table (wrong .1)))

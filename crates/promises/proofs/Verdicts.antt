@@ -17,7 +17,7 @@ use Rattle.row_list.proofs.VerdictLaws.{verdict-bit, verdict-past}
 use Rattle.soundness.specs.Setup.{Setup}
 use Rattle.monitor.specs.Step.{Call, verdict}
 use Rattle.promises.specs.Stream.{Starts, eventOf, state, history, clock, outcome, longer}
-use Rattle.promises.specs.Conditions.{ListRight}
+use Rattle.promises.specs.Conditions.{ListServes}
 use Rattle.promises.specs.Verdicts.{Answered, TruthsAreMeaning, judgedFormula, VerdictIsMeaning}
 use Rattle.promises.proofs.Invariant.{Invariant}
 use Rattle.promises.proofs.StartRight.{start-ready}
@@ -28,7 +28,7 @@ module _ (setup : Setup) (store : List ℕ) (starts : Starts setup store) (calls
   before : Invariant (setup .table) (history calls) (clock calls) (state setup store calls)
   before = stream-kept setup store starts calls
 
-  listed : ListRight (setup .table) (setup .list)
+  listed : ListServes (setup .table) (setup .list)
   listed = start-ready setup store starts .listed
 
   answered : Answered setup store calls c
@@ -58,11 +58,11 @@ module _ (setup : Setup) (store : List ℕ) (starts : Starts setup store) (calls
         let kept = only-judged listed before c number said in
         let row = getD (setup .list) k 0 in
         let says : T (truthAt truthsNow row) ↔ Holds (judgedFormula setup k) (longer calls c) =
-        call-kept listed before c (kept .0) (kept .1) .follows row (listed .within k within) .says
+        call-kept listed before c (kept .0) (kept .1) .follows row (listed .right .within k within) .says
         in
         let told : Tells (bitSet? k number) (BitSet k number) = tells-eqb _ 1 in
         let same : bitSet? k number ≡ truthAt truthsNow row =
-        rw number-is (verdict-bit truthsNow (setup .list) k (listed .most) within)
+        rw number-is (verdict-bit truthsNow (setup .list) k (listed .right .most) within)
         in (
           λ set. says .0 (subst T same (told .complete set)),
           λ holds. told .sound (subst T (sym same) (says .1 holds)),
@@ -71,7 +71,7 @@ module _ (setup : Setup) (store : List ℕ) (starts : Starts setup store) (calls
     no-other : (k : ℕ) → length (setup .list) ≤ k → ¬ BitSet k number
     no-other k past set =
         let told : Tells (bitSet? k number) (BitSet k number) = tells-eqb _ 1 in
-        let unset : bitSet? k number ≡ false = rw number-is (verdict-past truthsNow (setup .list) k (listed .most) past) in
+        let unset : bitSet? k number ≡ false = rw number-is (verdict-past truthsNow (setup .list) k (listed .right .most) past) in
         subst T unset (told .complete set)
 
 pub truths-are-meaning : TruthsAreMeaning

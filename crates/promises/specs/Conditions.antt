@@ -1,5 +1,5 @@
 -- The conditions of document 01's table of refusals, as document 02 amends them, as propositions in their words, apart from the tests that the contracts
--- cite (`rowPasses`, `limitsPass`, `listPasses`, `sound?`).
+-- cite (`rowPasses`, `limitsPass`, `listPasses`, `reached?`, `sound?`).
 use mathlib.Core.Bool.{false}
 use mathlib.Core.List.{List}
 use mathlib.Core.Logic.{_⊎_}
@@ -16,6 +16,7 @@ use Rattle.rules.specs.Limits.{rowNumbers, rowLimit, longest}
 use Rattle.rules.specs.Rows.{rowsOf, numbersAt}
 use Rattle.rules.specs.Stretches.{width, needOf}
 use Rattle.rules.specs.declared.numbers.Numbers.{Numbers}
+use Rattle.dead_rows.specs.Reached.{Reached}
 use Rattle.soundness.specs.declared.record.Record.{Record}
 use Rattle.soundness.specs.Setup.{Setup}
 use Rattle.spans.specs.Layout.{Laid}
@@ -63,10 +64,23 @@ pub record ListRight (table list : List ℕ) : Type 0 where
   pub rising : (i j : ℕ) → i < j → j < length list → getD list i 0 < getD list j 0
   pub within : (i : ℕ) → i < length list → getD list i 0 < rowsOf table
 
--- The table and the list are right, and 4: "store shorter than the need" is not so.
+-- Every row below n is reached.
+abbrev pub RowsReached : (table list : List ℕ) → ℕ → Type 0
+RowsReached table list n = (row : ℕ) → row < n → Reached table list row
+
+-- 11: "some row is reached from no listed row" (document 02, E8) is that this fails.
+abbrev pub AllReached : (table list : List ℕ) → Type 0
+AllReached table list = RowsReached table list (rowsOf table)
+
+-- Neither 10 nor 11 is so.
+pub record ListServes (table list : List ℕ) : Type 0 where
+  pub right : ListRight table list
+  pub reached : AllReached table list
+
+-- The table is right, the list serves it, and 4: "store shorter than the need" is not so.
 pub record Ready (setup : Setup) (size : ℕ) : Type 0 where
   pub right : TableRight (setup .table)
-  pub listed : ListRight (setup .table) (setup .list)
+  pub listed : ListServes (setup .table) (setup .list)
   pub room : needOf (setup .table) ≤ size
 
 -- A since row is of kind 6; "The sound record counts these rows as since rows" (document 02, E1) of once and always, kinds 7 and 8.

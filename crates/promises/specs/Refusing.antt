@@ -9,14 +9,26 @@ use Rattle.refusals.specs.Refusals.{Refused, refused}
 use Rattle.rules.specs.Rows.{rowsOf, numbersAt}
 use Rattle.rules.specs.Stretches.{needOf}
 use Rattle.rules.specs.Table.{refusedBy, checkOf}
-use Rattle.refusals.specs.declared.refusal.Refusal.the-variants.{Length, Row, Limits, Store, Earlier, Late, Unsound, RowList}
+use Rattle.refusals.specs.declared.refusal.Refusal.the-variants.{Length, Row, Limits, Store, Earlier, Late, Unsound, RowList, DeadRow}
+use Rattle.dead_rows.specs.Reached.{Reached}
 use Rattle.soundness.specs.declared.record.Record.{Record}
 use Rattle.times.specs.Times.{timeLimit}
 use Rattle.soundness.specs.Record.{nothingSeen, clockOf}
 use Rattle.monitor.specs.Start.{startOf}
 use Rattle.soundness.specs.Setup.{Setup}
 use Rattle.monitor.specs.Step.{Call, timeOf, refusal, stepOf, notAt, frameTimeOf}
-use Rattle.promises.specs.Conditions.{LengthRight, RowRight, LimitsRight, RowsRight, TableRight, ListRight, Ready, RecordRight}
+use Rattle.promises.specs.Conditions.{
+  LengthRight,
+  RowRight,
+  LimitsRight,
+  RowsRight,
+  TableRight,
+  ListRight,
+  RowsReached,
+  ListServes,
+  Ready,
+  RecordRight,
+}
 
 -- The table of refusals, a line a condition, each with what those tried before it leave: what refuses with which number and values.
 -- "Among rows the first bad row decides": every row below r is right and r is not.
@@ -36,12 +48,19 @@ pub data TableRefused (table : List ℕ) : Refused → Type 0 where
       → ¬ LimitsRight (numbersAt table r .a) (numbersAt table r .b)
       → TableRefused table (refused (Limits r))
 
--- 10 "after 3 and before 4".
+-- 10 "after 3 and before 4", and 11 "with the lowest such row, after 10 and before 4": every row below r is reached and r is not.
 pub data StartRefused (setup : Setup) (size : ℕ) : Refused → Type 0 where
   table : {fault : Refused} → TableRefused (setup .table) fault → StartRefused setup size fault
   ten : TableRight (setup .table) → ¬ ListRight (setup .table) (setup .list) → StartRefused setup size (refused RowList)
-  four : TableRight (setup .table)
+  eleven : TableRight (setup .table)
       → ListRight (setup .table) (setup .list)
+      → (r : ℕ)
+      → r < rowsOf (setup .table)
+      → RowsReached (setup .table) (setup .list) r
+      → ¬ Reached (setup .table) (setup .list) r
+      → StartRefused setup size (refused (DeadRow r))
+  four : TableRight (setup .table)
+      → ListServes (setup .table) (setup .list)
       → size < needOf (setup .table)
       → StartRefused setup size (refused Store)
 

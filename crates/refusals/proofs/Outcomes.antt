@@ -5,7 +5,7 @@ use mathlib.Core.Path.{_≡_, refl}
 use lib.Dec.{eqb}
 use Rattle.refusals.specs.Refusals.{Refused, refused, rowIn}
 use Rattle.refusals.specs.declared.refusal.Refusal.{Refusal}
-use Rattle.refusals.specs.declared.refusal.Refusal.the-variants.{Length, Row, Limits, Store, Earlier, Late, Unsound, BadLine, BadSum, RowList}
+use Rattle.refusals.specs.declared.refusal.Refusal.the-variants.{Length, Row, Limits, Store, Earlier, Late, Unsound, BadLine, BadSum, RowList, DeadRow}
 
 -- The refusal that gives this.
 abbrev pub refusalOf : Refused → Refusal
@@ -18,7 +18,8 @@ refusalOf r =
     (cond (eqb (r .number) 6) Late
     (cond (eqb (r .number) 7) Unsound
     (cond (eqb (r .number) 8) BadLine
-    (cond (eqb (r .number) 9) BadSum RowList))))))))
+    (cond (eqb (r .number) 9) BadSum
+    (cond (eqb (r .number) 10) RowList (DeadRow (rowIn r)))))))))))
 
 pub refusal-back : (r : Refusal) → refusalOf (refused r) ≡ r
 refusal-back Length = refl
@@ -31,3 +32,4 @@ refusal-back Unsound = refl
 refusal-back BadLine = refl
 refusal-back BadSum = refl
 refusal-back RowList = refl
+refusal-back (DeadRow row) = refl

@@ -3,7 +3,7 @@
 use mathlib.Core.Option.{Option, none, some}
 use Prim.Native.Nat.{ℕ}
 use Rattle.refusals.specs.declared.refusal.Refusal.{Refusal}
-use Rattle.refusals.specs.declared.refusal.Refusal.the-variants.{Length, Row, Limits, Store, Earlier, Late, Unsound, BadLine, BadSum, RowList}
+use Rattle.refusals.specs.declared.refusal.Refusal.the-variants.{Length, Row, Limits, Store, Earlier, Late, Unsound, BadLine, BadSum, RowList, DeadRow}
 
 -- The paper's number, and what is given beside it. A refusal that gives more has a field more here, and says so in `alone` and `ofRow` once.
 pub record Refused : Type 0 where
@@ -27,6 +27,7 @@ refused Unsound = alone 7
 refused BadLine = alone 8
 refused BadSum = alone 9
 refused RowList = alone 10
+refused (DeadRow row) = ofRow 11 row
 
 abbrev pub numberOf : Refusal → ℕ
 numberOf r = refused r .number

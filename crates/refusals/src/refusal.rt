@@ -25,6 +25,8 @@ pub enum Refusal {
     BadSum,
     // 10: the list of row numbers is not 1 to 16, strictly rising, each within the table.
     RowList,
+    // 11, with the lowest such row: a row that no listed row reaches.
+    DeadRow(u32),
 }
 
 // The number of a refusal.
@@ -42,6 +44,7 @@ pub fn number(r: Refusal) -> u32
         Refusal::BadLine => 8,
         Refusal::BadSum => 9,
         Refusal::RowList => 10,
+        Refusal::DeadRow(_) => 11,
     }
 }
 
@@ -60,5 +63,6 @@ pub fn row(r: Refusal) -> u32
         Refusal::BadLine => 0,
         Refusal::BadSum => 0,
         Refusal::RowList => 0,
+        Refusal::DeadRow(row) => row,
     }
 }

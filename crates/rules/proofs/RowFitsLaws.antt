@@ -6,7 +6,7 @@ use lib.ListN.{length}
 use Rattle.meaning.proofs.Tells.{Tells, tells-ltb, tells-and, tells-same}
 use Rattle.meaning.proofs.Truths.{and-left, and-right}
 use Rattle.meaning.specs.Heartbeat.{heartbeatBit}
-use Rattle.kinds.specs.Kinds.{Rule, plain, stretch, Kind, kinds, kindAt}
+use Rattle.kinds.specs.Kinds.{Rule, plain, stretch, Kind, kinds, kindAt, isLower}
 use Rattle.kinds.specs.declared.plain.Plain.{Plain}
 use Rattle.kinds.specs.declared.plain.Plain.the-variants as Plain
 use Rattle.kinds.specs.declared.stretch.Keep.{Keep}
@@ -14,7 +14,6 @@ use Rattle.kinds.specs.declared.stretch.Keep.the-variants.{Unasked, WhileX, Whi
 use Rattle.kinds.specs.declared.stretch.Feed.{Feed}
 use Rattle.kinds.specs.declared.stretch.Feed.the-variants.{FromX, FromY}
 use Rattle.kinds.proofs.KindsLaws.{
-  isLower,
   isLimit,
   keeperRight,
   feederRight,

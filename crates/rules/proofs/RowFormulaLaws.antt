@@ -2,7 +2,7 @@
 use mathlib.Core.List.{List}
 use mathlib.Core.Logic.{⊎-elim}
 use mathlib.Core.Path.{_≡_, refl, sym, _∙_}
-use Prim.Native.Nat.{ℕ, zero, suc, _<_}
+use Prim.Native.Nat.{ℕ, zero, suc, _≤_, _<_}
 use native.Mathlib.Nat.{eq-or-lt-of-le, le-of-suc-le-suc}
 use native.Mathlib.Omega.{arith}
 use borrow.Author.Tests.{eq-eqb, ne-eqb}
@@ -25,6 +25,12 @@ below-at other make (suc n) r lower =
     (λ e. rw (eq-eqb r n e, e))
     (λ further. rw (ne-eqb r n (λ e. omega arith), below-at other make n r further))
     (eq-or-lt-of-le (le-of-suc-le-suc lower))
+
+-- Past the rows that were made there is nothing but the other value.
+pub below-past : {A : Type 0} (other : A) (make : ℕ → (ℕ → A) → A) (n r : ℕ) → n ≤ r → below other make n r ≡ other
+unfolding below
+below-past other make zero r past = refl
+below-past other make (suc n) r past = rw (ne-eqb r n (λ e. omega arith)) (below-past other make n r (omega arith))
 
 -- What keeps a row's spans is the same for two that agree on lower rows.
 pub kept-same :

@@ -1,4 +1,4 @@
--- Refusals 1 to 3, 10 and 4, then 7, with which every call begins (document 01, "Refusal numbers"; document 02, E4).
+-- Refusals 1 to 3, 10, 11 and 4, then 7, with which every call begins (document 01, "Refusal numbers"; document 02, E4 and E8).
 use mathlib.Core.Bool.{Bool, cond}
 use mathlib.Core.List.{List}
 use mathlib.Core.Path.{_≡_}

@@ -1,4 +1,4 @@
-// Refusals 1 to 3, 10 and 4, then 7, with which every call begins.
+// Refusals 1 to 3, 10, 11 and 4, then 7, with which every call begins.
 
 use crate::ready::ready;
 use crate::soundness::sound_record;

@@ -12,6 +12,8 @@ use Rattle.kinds.specs.Kinds.{kindAt}
 use Rattle.rules.specs.Table.{checkOf, lengthPasses, rowPasses, limitsPass, faultOf, firstFault}
 use Rattle.rules.specs.Rows.{numbersAt}
 use Rattle.rules.specs.Stretches.{offset}
+use Rattle.rules.specs.RowFormula.{below}
+use Rattle.dead_rows.specs.DeadRows.{reaches, reached?, lowestNot}
 use Rattle.meaning.specs.Interval.{endOf}
 use Rattle.meaning.specs.Figure.{figure}
 use Rattle.meaning.specs.FrameTime.{frameTime}
@@ -28,5 +30,5 @@ use Rattle.monitor.specs.Step.{refusalOf, stepOf}
 use Rattle.text_promises.specs.WholeCase.{WholeCase}
 
 pub whole-case : WholeCase
-unfolding emptyStore transcript rulesFrom setupThen framesFrom linesGoingOn replyLine isDigit digitValue digitsAt hexAt digitByte digits rightAt sumAt lineAt listMarked risesWithin listPasses bitsOf verdictNumber checkOf lengthPasses rowPasses limitsPass faultOf firstFault kindAt numbersAt offset endOf figure frameTime clip join update endAt spansFrom wordsOf packed covered soundSpan? soundFrom? soundEndless? soundSpans? zeros? soundStretch? stretchAt nothingSeen every soundRow? zeroPast? sound? readyOf startOf spansAfter truthOf truthsAfter countsWith wordsDone storeWith recordAfter refusalOf stepOf
+unfolding emptyStore transcript rulesFrom setupThen framesFrom linesGoingOn replyLine isDigit digitValue digitsAt hexAt digitByte digits rightAt sumAt lineAt listMarked risesWithin listPasses bitsOf verdictNumber checkOf lengthPasses rowPasses limitsPass faultOf firstFault kindAt numbersAt offset below reaches reached? lowestNot endOf figure frameTime clip join update endAt spansFrom wordsOf packed covered soundSpan? soundFrom? soundEndless? soundSpans? zeros? soundStretch? stretchAt nothingSeen every soundRow? zeroPast? sound? readyOf startOf spansAfter truthOf truthsAfter countsWith wordsDone storeWith recordAfter refusalOf stepOf
 whole-case = refl
