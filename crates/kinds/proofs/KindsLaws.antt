@@ -1,19 +1,18 @@
--- Laws of the table of kinds: the code's lines are those of the table, what a rule asks of the line that has it, tests over all lines, and what a number
+-- Laws of the table of kinds: what a rule asks of the line that has it, tests over all lines, and what a number
 -- that fits its use is.
 use mathlib.Core.Bool.{Bool, true, false, not, _&&_}
-use mathlib.Core.List.{List, [], _∷_, map}
-use mathlib.Core.Path.{_≡_, refl, sym, _∙_}
+use mathlib.Core.List.{List, [], _∷_}
+use mathlib.Core.Path.{_≡_, refl, sym}
 use Prim.Native.Nat.{ℕ, zero, suc, _≤_, _<_}
 use native.Mathlib.Omega.{arith}
 use native.Mathlib.Nat.{le-of-suc-le-suc, not-suc-le-zero}
-use lib.ListN.{length, getD, List·getD-map, List·getD-eq-default}
+use lib.ListN.{length, getD, List·getD-eq-default}
 use Rattle.meaning.proofs.Tells.{Tells, tells-ltb, tells-eqb}
 use Rattle.meaning.proofs.Truths.{no-truth, and-left, and-right}
 use Rattle.meaning.specs.Heartbeat.{heartbeatBit}
-use Rattle.kinds.specs.Kinds.{Rule, plain, stretch, Kind, kind, kinds, kindAt, hasStretch, ownsStretch, columnsOf, plainOf, kindLine, isLower, fits}
+use Rattle.kinds.specs.Kinds.{Rule, plain, stretch, Kind, kind, kinds, kindAt, hasStretch, ownsStretch, columnsOf, plainOf, isLower, fits}
 use Rattle.kinds.specs.declared.table.Use.{Use}
 use Rattle.kinds.specs.declared.table.Use.the-variants.{Unused, Bit, Lower, Limit}
-use Rattle.kinds.specs.declared.table.KindLine.{KindLine}
 use Rattle.kinds.specs.declared.plain.Plain.{Plain}
 use Rattle.kinds.specs.declared.plain.Plain.the-variants as Plain
 use Rattle.kinds.specs.declared.stretch.Keep.{Keep}
@@ -21,20 +20,9 @@ use Rattle.kinds.specs.declared.stretch.Keep.the-variants.{Unasked, Whil
 use Rattle.kinds.specs.declared.stretch.Feed.{Feed}
 use Rattle.kinds.specs.declared.stretch.Feed.the-variants.{FromX, FromY}
 
--- Within a list nothing is read in place of an entry.
-getD-any : {A : Type 0} (l : List A) (k : ℕ) (d e : A) → k < length l → getD l k d ≡ getD l k e
-getD-any [] k d e h = absurd (not-suc-le-zero h)
-getD-any (a ∷ l) zero d e h = refl
-getD-any (a ∷ l) (suc k) d e h = getD-any l k d e (le-of-suc-le-suc h)
-
 -- What `kindAt` reads where a kind has no line.
 abbrev noLine : Kind
 noLine = kind Unused Unused Unused Unused (plain Plain.Truth)
-
--- The code's table is the table of kinds, line by line.
-pub line-at : (k : ℕ) (other : KindLine) → k < length (map kindLine kinds) → getD (map kindLine kinds) k other ≡ kindLine (kindAt k)
-unfolding kindAt
-line-at k other h = getD-any (map kindLine kinds) k other (kindLine noLine) h ∙ List·getD-map kindLine kinds k noLine
 
 -- What a row says, by the column that tells whether it owns a stretch.
 pub owned-rule : (rule : Rule) → hasStretch rule ≡ true → rule ≡ stretch (columnsOf rule)

@@ -1,5 +1,5 @@
-// The one table of kinds (document 01; 7 and 8 by document 02, E1): specs/Kinds as code. A new kind is a line in both, and a case of `Plain` where it has
-// no stretch.
+// The one table of kinds (document 01; 7 and 8 by document 02, E1): specs/Kinds as code. A new kind is a line in both, counted in `KINDS`, and a case of
+// `Plain` where it has no stretch.
 
 ghost use mathlib.Core.Path.{_≡_};
 ghost use Rattle.kinds.specs.Kinds.{kindAt, known, kindLine, useOf, isLower, fits};
@@ -79,42 +79,42 @@ const EITHER: Plain = Plain::Either;
 
 const PREVIOUS: Plain = Plain::Previous;
 
-const KINDS: [KindLine; 9] = [
-    // 0: true.
-    KindLine(UNUSED, UNUSED, UNUSED, UNUSED, false, NONE, TRUTH),
-    // 1: bit x.
-    KindLine(BIT, UNUSED, UNUSED, UNUSED, false, NONE, BIT_SET),
-    // 2: not x.
-    KindLine(LOWER, UNUSED, UNUSED, UNUSED, false, NONE, NEGATION),
-    // 3: x and y.
-    KindLine(LOWER, LOWER, UNUSED, UNUSED, false, NONE, BOTH),
-    // 4: x or y.
-    KindLine(LOWER, LOWER, UNUSED, UNUSED, false, NONE, EITHER),
-    // 5: previous x.
-    KindLine(LOWER, UNUSED, LIMIT, LIMIT, false, NONE, PREVIOUS),
-    // 6: x since y.
-    KindLine(LOWER, LOWER, LIMIT, LIMIT, true, SINCE, TRUTH),
-    // 7: once x.
-    KindLine(LOWER, UNUSED, LIMIT, LIMIT, true, ONCE, TRUTH),
-    // 8: always x.
-    KindLine(LOWER, UNUSED, LIMIT, LIMIT, true, ALWAYS, TRUTH),
-];
+// How many kinds there are.
+const KINDS: u32 = 9;
 
 // Whether there is such a kind.
 pub fn is_known(kind: u32) -> bool
     ensures { λ r. ⌜ r ≡ known kind ⌝ }
 {
-    (kind as usize) < KINDS.len()
+    kind < KINDS
 }
 
-// The line of a kind; where there is none, a line that uses nothing.
+// The line of a kind; where there is none, a line that uses nothing. The lines are arms, not an array: that would be put on the stack wherever a line is
+// read, since the module has no data.
 pub fn line_of(kind: u32) -> KindLine
     ensures { λ r. ⌜ r ≡ kindLine (kindAt kind) ⌝ }
 {
-    if is_known(kind) {
-        return KINDS[kind as usize];
+    match kind {
+        // True.
+        0 => KindLine(UNUSED, UNUSED, UNUSED, UNUSED, false, NONE, TRUTH),
+        // Bit x.
+        1 => KindLine(BIT, UNUSED, UNUSED, UNUSED, false, NONE, BIT_SET),
+        // Not x.
+        2 => KindLine(LOWER, UNUSED, UNUSED, UNUSED, false, NONE, NEGATION),
+        // x and y.
+        3 => KindLine(LOWER, LOWER, UNUSED, UNUSED, false, NONE, BOTH),
+        // x or y.
+        4 => KindLine(LOWER, LOWER, UNUSED, UNUSED, false, NONE, EITHER),
+        // Previous x.
+        5 => KindLine(LOWER, UNUSED, LIMIT, LIMIT, false, NONE, PREVIOUS),
+        // x since y.
+        6 => KindLine(LOWER, LOWER, LIMIT, LIMIT, true, SINCE, TRUTH),
+        // Once x.
+        7 => KindLine(LOWER, UNUSED, LIMIT, LIMIT, true, ONCE, TRUTH),
+        // Always x.
+        8 => KindLine(LOWER, UNUSED, LIMIT, LIMIT, true, ALWAYS, TRUTH),
+        _ => KindLine(UNUSED, UNUSED, UNUSED, UNUSED, false, NONE, TRUTH),
     }
-    KindLine(UNUSED, UNUSED, UNUSED, UNUSED, false, NONE, TRUTH)
 }
 
 // What the number at a field of a row is used as; the fields are x, y, a and b, from 1 on.
