@@ -1,8 +1,9 @@
 /* Muktrashi: a proved monitor for a pool's touch-pad board. docs/FIRMWARE.md tells how to build the library for a processor and what a caller sees to.
  *
  * A rule table in past-time metric temporal logic, lent as a row of 32-bit numbers, five per row: kind, x, y, a, b; 1 to 256 rows, counted from 0. A list
- * of the rows that are judged, lent as a row of 32-bit row numbers; 1 to 16, strictly rising. A store, lent as a row of 64-bit words. A record, which the
- * caller keeps. docs/RULES.md tells how to write a rule.
+ * of the rows that are judged, lent as a row of 32-bit row numbers; 1 to 16, strictly rising. Every row is reached from a listed one: a listed row is
+ * reached, and so is a row that a reached row names. A store, lent as a row of 64-bit words. A record, which the caller keeps. docs/RULES.md tells how to
+ * write a rule.
  *
  * Every function answers every input, however damaged, with one code. The library has no data of its own and keeps no pointer: calls may run at the same
  * time, and one may interrupt another, if no two share a store or a record.
@@ -13,8 +14,9 @@
  * nothing else that the call is lent. No call can test any of this: a null, unaligned or overlapping pointer, or a length that is too great, is outside
  * every promise.
  *
- * Between calls leave table, store and record to the monitor. What was changed in between is refused (1 to 4, 10 or 7) or, if it is still sound, answered
- * from the spans and truths found. The list may be another with each call: it only says which truths are told.
+ * Between calls leave table, store and record to the monitor. What was changed in between is refused (1 to 4, 10, 11 or 7) or, if it is still sound,
+ * answered from the spans and truths found. The list may be another with each call: it says which truths are told, and one that leaves a row unreached is
+ * refused 11.
  */
 #ifndef MUKTRASHI_H
 #define MUKTRASHI_H
@@ -27,7 +29,7 @@ extern "C" {
 #endif
 
 /* Raised whenever the record, a code or what a function takes changes; muk_version answers the library's. */
-#define MUK_VERSION 4
+#define MUK_VERSION 5
 
 /* The most rows that a table has. */
 #define MUK_ROWS 256
@@ -62,14 +64,15 @@ MUK_HOLDS(offsetof(muk_record, counts) == 284);
 #undef MUK_HOLDS
 #endif
 
-/* The refusals, in the order in which they are tried. 2 and 3 give the row; among rows the first bad one decides. A refused call leaves every word of
- * the store, every field of the record and every single number as it was, but for two: a refused start leaves an all-zero record, and a refused line moves
- * the place. */
+/* The refusals, in the order in which they are tried. 2, 3 and 11 give the row; among rows the first bad one decides, of dead ones the lowest. A refused
+ * call leaves every word of the store, every field of the record and every single number as it was, but for two: a refused start leaves an all-zero record,
+ * and a refused line moves the place. */
 enum {
     MUK_BAD_LENGTH = 1,  /* the table's length is not a multiple of 5, or its rows are not 1 to 256 */
     MUK_BAD_ROW = 2,     /* a row: kind over 8, x or y not lower, bit over 30, unused number not 0 */
     MUK_BAD_LIMITS = 3,  /* a row passes 2, but a is over 86,400,000, or b is not a to 86,400,000 or 4,294,967,295 ("no end") */
     MUK_BAD_LIST = 10,   /* the list is not 1 to 16 numbers, strictly rising, each below the table's row count */
+    MUK_DEAD_ROW = 11,   /* a row is dead: reached from no listed row */
     MUK_SHORT_STORE = 4, /* the store is shorter than the need */
     MUK_UNSOUND = 7,     /* the record, or what the store holds beside it, is not sound */
     MUK_LATE = 6,        /* the time is over 281,474,976,710,655 */
@@ -93,22 +96,22 @@ static inline uint32_t muk_verdict(uint32_t code) { return muk_refusal(code) != 
 /* The library's version, which is MUK_VERSION where header and library belong together. This one is no code. */
 uint32_t muk_version(void);
 
-/* The table check: refusals 1 to 3, or 0, and the row count and the need in words are written. The need is the sum over the rows of kinds 6, 7 and 8
- * of two words for each span: floor(b/(b-a+2))+1 spans, or 1 when b has no end. It is always enough. */
+/* The table check: refusals 1 to 3, or 0, and the row count and the need in words are written. It has no list, so it finds no row dead. The need is the
+ * sum over the rows of kinds 6, 7 and 8 of two words for each span: floor(b/(b-a+2))+1 spans, or 1 when b has no end. It is always enough. */
 uint32_t muk_check(const uint32_t *table, uint64_t table_len, uint32_t *rows, uint64_t *need);
 
-/* A start: refusals 1 to 3, 10 and 4, or 0. A good start writes 0 to every word of the need and makes the record one that has seen no event, its clock 0;
- * what the record held does not matter. A refused one leaves the store, and the record all zero. Words past the need are never written, by any call, and
- * nothing depends on them. */
+/* A start: refusals 1 to 3, 10, 11 and 4, or 0. A good start writes 0 to every word of the need and makes the record one that has seen no event, its clock
+ * 0; what the record held does not matter. A refused one leaves the store, and the record all zero. Words past the need are never written, by any call,
+ * and nothing depends on them. */
 uint32_t muk_start(const uint32_t *table, uint64_t table_len, const uint32_t *list, uint64_t list_len, uint64_t *store, uint64_t store_len,
                    muk_record *record);
 
 /* A mask with this bit makes its call a heartbeat; a rule that names bit 31 is refused 2. */
 #define MUK_HEARTBEAT 0x80000000u
 
-/* One event, its time in whole milliseconds and its mask: refusals 1 to 3, 10 and 4, then 7, 6, 5, or the verdict: bit k is 1 where the k-th listed row, k
- * from 0, is true at this event, all other bits are 0. A time that equals the clock is accepted. The record is changed where it stands, and it has every
- * row's truth, listed or not.
+/* One event, its time in whole milliseconds and its mask: refusals 1 to 3, 10, 11 and 4, then 7, 6, 5, or the verdict: bit k is 1 where the k-th listed
+ * row, k from 0, is true at this event, all other bits are 0. A time that equals the clock is accepted. The record is changed where it stands, and it has
+ * every row's truth, listed or not.
  *
  * A heartbeat is no event; the other bits of its mask are ignored. The same refusals, or MUK_MOVED: the clock moves to its time, and every row's spans are
  * clipped there (ended ones are dropped, the first begins no earlier); `seen`, `last` and the truths stay. So "previous" (kind 5) measures from the last

@@ -25,13 +25,16 @@ trap 'rm -rf "$work"' EXIT
     yes EE0800 | head -n 5000
 } >"$work/line-feeds.out"
 
-# Each row as the last of its table; the sum of a rule line is that of its eleven bytes.
-while read -r kind x y a b reply; do
+# Each row as the last of its table, with a list of all rows and without one; the sum of a rule line is that of its eleven bytes.
+while read -r kind x y a b listed alone; do
     row="$work/row-$kind-$x-$y-$a-$b" sum=0
     line=$(printf '%02X%02X%02X%08X%08X' "$kind" "$x" "$y" "$a" "$b")
     for ((at = 0; at < 22; at += 2)); do sum=$((sum + 16#${line:at:2})); done
-    printf '000000000000000000000000\n011E0000000000000000001F\n%s%02X\n\n' "$line" $((sum % 256)) >"$row.in"
-    printf '%s\n' "$reply" >"$row.out"
+    table=$(printf '000000000000000000000000\n011E0000000000000000001F\n%s%02X' "$line" $((sum % 256)))
+    printf '%s\nAA000102AD\n\n' "$table" >"$row-listed.in"
+    printf '%s\n' "$listed" >"$row-listed.out"
+    printf '%s\n\n' "$table" >"$row-alone.in"
+    printf '%s\n' "$alone" >"$row-alone.out"
 done < <(grep '^[0-9]' tests/cases-numbers/rows.txt)
 
 failures=0

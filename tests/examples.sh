@@ -1,7 +1,8 @@
 #!/usr/bin/env bash
 # Every example and every case of docs/RULES.md, judged: what ./judge writes for NAME.in is NAME.out. Each is told of in its page, and each command
-# of docs/RULES.md writes what the page says. Two rules of that page that mean the same have the same answer to the same frames. Where a rule asks for
-# touches that were taken, the capture says of each touch that is taken, and of no other, that it was.
+# of docs/RULES.md writes what the page says. Two rules of that page that mean the same have the same answer to the same frames, and a mistyped one differs
+# from the one that was meant in one line. Where a rule asks for touches that were taken, the capture says of each touch that is taken, and of no other, that
+# it was.
 set -u
 cd "$(dirname "$0")/.." || exit 2
 failures=0
@@ -30,6 +31,12 @@ same() {
     cmp -s "$one.out" "$other.out" || fail "$1 and $2 differ in their answers"
 }
 
+# mistyped NAME NAME: two cases that differ in one line.
+mistyped() {
+    changed=$(diff "tests/cases-rules/$1.in" "tests/cases-rules/$2.in" | grep -c '^[<>]')
+    [ "$changed" -eq 2 ] || fail "$1 and $2 do not differ in one line alone"
+}
+
 frames() {
     sed '1,/^$/d' "$1"
 }
@@ -55,6 +62,8 @@ judged examples/README.md examples/*.in
 judged docs/RULES.md tests/cases-rules/*.in
 same once-window once-as-since
 same always-held always-as-not-once-not
+mistyped refused-dead-row bounce
+mistyped refused-list-lacks-a-row bounce-and-early
 tells_taken examples/ten-lanes.in
 tells_taken tests/cases-rules/chatter-taken.in
 cmp -s <(touches tests/cases-rules/chatter-every-touch.in) <(touches tests/cases-rules/chatter-taken.in) || fail "the two pads that chatter differ"

@@ -167,56 +167,95 @@ rows() {
 # row KIND X Y A B: its line.
 row() { rows <<<"$*"; }
 
-# Rows with their spans, words and meanings; the last is bit 0 of the verdict.
+# Rows with the listed rows from which they are reached, their spans, words and meanings; rows 4 to 18 are listed, in this order the bits of the verdict.
 no_end=4294967295 printed=()
-while read -r kind x y a b spans words meaning; do
-    printed+=("$(printf '%3d  %5s  %5s        -  %s' "${#printed[@]}" "$spans" "$words" "$meaning")")
+while read -r kind x y a b from spans words meaning; do
+    bit=- row=${#printed[@]}
+    [ "$row" -lt 4 ] || bit="bit $((row - 4))"
+    printed+=("$(printf '%3d  %5s  %5s  %7s  %-5s  %s' "$row" "$spans" "$words" "$bit" "${from//,/ }" "$meaning")")
     printf '%s\n' "$kind $x $y $a $b"
 done <<END >"$work/numbers"
-0 0 0 0 0             -   - true at every event
-1 30 0 0 0            -   - bit 30 of the mask is set
-2 1 0 0 0             -   - row 1 is false
-3 0 1 0 0             -   - rows 0 and 1 are both true
-4 1 0 0 0             -   - row 1 or row 0 is true
-5 1 0 0 20            -   - row 1 was true at the event before, at most 20 ms ago
-5 1 0 0 $no_end       -   - row 1 was true at the event before, at any time
-6 1 0 100 200         2   4 row 0 was true 100 to 200 ms ago, and row 1 at every event since
-6 1 0 0 $no_end       1   2 row 0 was true at some time, and row 1 at every event since
-7 1 0 600 600       301 602 row 1 was true exactly 600 ms ago
-7 1 0 100 200         2   4 row 1 was true 100 to 200 ms ago
-7 1 0 0 20            1   2 row 1 was true at most 20 ms ago
-7 1 0 1000 $no_end    1   2 row 1 was true 1000 ms ago or longer
-7 1 0 0 $no_end       1   2 row 1 was true at some time
-8 1 0 600 600       301 602 row 1 was true at every event exactly 600 ms ago
-8 1 0 100 200         2   4 row 1 was true at every event 100 to 200 ms ago
-8 1 0 0 20            1   2 row 1 was true at every event at most 20 ms ago
-8 1 0 1000 $no_end    1   2 row 1 was true at every event 1000 ms ago or longer
-8 1 0 0 $no_end       1   2 row 1 was true at every event so far
+0 0 0 0 0           4,7,8   -   - true at every event
+1 30 0 0 0          all     -   - bit 30 of the mask is set
+2 1 0 0 0           4       -   - row 1 is false
+3 2 1 0 0           4       -   - rows 2 and 1 are both true
+4 3 0 0 0           4       -   - row 3 or row 0 is true
+5 1 0 0 20          5       -   - row 1 was true at the event before, at most 20 ms ago
+5 1 0 0 $no_end     6       -   - row 1 was true at the event before, at any time
+6 1 0 100 200       7       2   4 row 0 was true 100 to 200 ms ago, and row 1 at every event since
+6 1 0 0 $no_end     8       1   2 row 0 was true at some time, and row 1 at every event since
+7 1 0 600 600       9     301 602 row 1 was true exactly 600 ms ago
+7 1 0 100 200       10      2   4 row 1 was true 100 to 200 ms ago
+7 1 0 0 20          11      1   2 row 1 was true at most 20 ms ago
+7 1 0 1000 $no_end  12      1   2 row 1 was true 1000 ms ago or longer
+7 1 0 0 $no_end     13      1   2 row 1 was true at some time
+8 1 0 600 600       14    301 602 row 1 was true at every event exactly 600 ms ago
+8 1 0 100 200       15      2   4 row 1 was true at every event 100 to 200 ms ago
+8 1 0 0 20          16      1   2 row 1 was true at every event at most 20 ms ago
+8 1 0 1000 $no_end  17      1   2 row 1 was true at every event 1000 ms ago or longer
+8 1 0 0 $no_end     18      1   2 row 1 was true at every event so far
 END
-printed[-1]=${printed[-1]/      -  row/  bit 0  row}
 rows <"$work/numbers" >"$work/table"
+tools/line list {4..18} >>"$work/table"
 expect 0 "need: 1230 words of store" tools/table "$work/table"
 difference=$(diff <(sed -n '2,/^need:/p' <<<"$writes" | sed '$d') <(printf '%s\n' "${printed[@]}")) || fail "tools/table writes (<), not (>):
 $difference"
 
 true=$(row 0 0 0 0 0) bit=$(row 1 0 0 0 0)
 
-# Rows that are not reached; y of once and of always, which is 0, names none.
-table_says 0 "note: the last row does not reach row 1, which decides nothing" "$bit" "$bit" "$(row 2 0 0 0 0)"
-for kind in 7 8; do
-    table_says 0 "note: the last row does not reach row 0, which decides nothing" "$bit" "$bit" "$(row $kind 1 0 0 20)"
-    [ "$(grep -c '^note: the last row does not reach' <<<"$writes")" -eq 1 ] || fail "of kind $kind over row 1 tools/table writes '$writes'"
-done
+# table_writes TEXT LINE..: tools/table says TEXT of these rule lines, at the end or before it, and nothing else.
+table_writes() {
+    text=$1
+    shift
+    writes=$(tools/table <(printf '%s\n' "$@") 2>&1)
+    [ "$writes" = "$text" ] || fail "tools/table writes '$writes', not '$text'"
+}
 
+# Dead rows, each with the rows that name it, and the lowest refused; the other rows with the listed rows that reach them.
+not_0=$(row 2 0 0 0 0)
+table_writes 'row  spans  words  verdict  from  meaning
+  0      -      -        -  2     bit 0 of the mask is set
+  1      -      -        -  none  bit 0 of the mask is set
+  2      -      -    bit 0  2     row 0 is false
+note: row 1 is dead: no row names it, and it is not the last
+table: row 1: refused 11: the last row does not reach it, and there is no list (the program writes EE0B01)' "$bit" "$bit" "$not_0" ''
+table_writes 'row  spans  words  verdict  from  meaning
+  0      -      -    bit 0  all   bit 0 of the mask is set
+  1      -      -        -  none  true at every event
+  2      -      -        -  none  row 1 is false
+  3      1      2        -  none  row 1 was true exactly 0 ms ago, and row 2 at every event since
+  4      1      2        -  none  row 1 was true at most 20 ms ago
+  5      -      -    bit 1  5     row 0 is false
+note: row 1 is dead: only rows 2, 3 and 4 name it, which are dead too
+note: row 2 is dead: only row 3 names it, which is dead too
+note: row 3 is dead: no row names it, and it is not listed
+note: row 4 is dead: no row names it, and it is not listed
+table: row 1: refused 11: no listed row reaches it (the program writes EE0B01)' \
+    "$bit" "$true" "$(row 2 1 0 0 0)" "$(row 6 2 1 0 0)" "$(row 7 1 0 0 20)" "$not_0" "$(tools/line list 0 5)" ''
+table_says 1 "(the program writes EE0800, and EE0B00 once an empty line ends the rules)" "$bit" "$true"
+# y of kinds that do not use it is 0, and names none; nor does the x of a bit.
+for kind in 2 5 7 8; do
+    table_says 1 "row 0: refused 11" "$bit" "$bit" "$(row $kind 1 0 0 0)" ''
+    [ "$(grep -c 'is dead' <<<"$writes")" -eq 1 ] || fail "of kind $kind over row 1 tools/table writes '$writes'"
+done
+table_says 1 "row 0: refused 11" "$bit" "$bit" ''
+# 2, 3 and 10 come before, 4 after; before the first three nothing is said of dead rows.
+table_says 1 "row 0: refused 11" "$bit" "$true" "$(row 6 1 1 8192 8192)" ''
+for bad in "$(row 2 2 0 0 0)" "$(row 7 1 0 3 2)"; do
+    table_says 1 "(the program writes EE0" "$bit" "$true" "$bad" ''
+    grep -qE '11|dead|from' <<<"$said$writes" && fail "of a row that is refused tools/table writes '$writes' and says '$said'"
+done
+table_says 1 "the list: refused 10" "$bit" "$true" AA0100AB ''
+grep -qE 'dead|from' <<<"$writes" && fail "of a list that is refused tools/table writes '$writes'"
 
 # Listed rows, each with its bit; what a list refuses, after the rows.
 two=("$bit" "$(row 1 1 0 0 0)" "$(row 4 0 1 0 0)" "$(row 3 0 1 0 0)")
-table_says 0 "  2      -      -    bit 0  row 0 or row 1 is true" "${two[@]}" AA0203AF ''
-grep -qF "  3      -      -    bit 1  rows 0 and 1 are both true" <<<"$writes" || fail "of two listed rows tools/table writes '$writes'"
-table_says 0 "  3      -      -    bit 0  rows 0 and 1 are both true" "${two[@]}" ''
-table_says 0 "note: the last row does not reach row 2, which decides nothing" "${two[@]}" ''
-table_says 0 "note: no listed row reaches row 3, which decides nothing" "${two[@]}" AA02AC ''
-[ "$(grep -c '^note:' <<<"$writes")" -eq 1 ] || fail "of a listed row that is not the last tools/table writes '$writes'"
+table_says 0 "  2      -      -    bit 0  2     row 0 or row 1 is true" "${two[@]}" AA0203AF ''
+grep -qF "  3      -      -    bit 1  3     rows 0 and 1 are both true" <<<"$writes" || fail "of two listed rows tools/table writes '$writes'"
+table_says 0 "  2      -      -    bit 0  row 0 or row 1 is true" "${two[@]::3}" ''
+grep -q 'from' <<<"$writes" && fail "of a single verdict, and no dead row, tools/table writes '$writes'"
+table_says 1 "row 2: refused 11: the last row does not reach it, and there is no list (the program writes EE0B02)" "${two[@]}" ''
+table_says 1 "row 3: refused 11: no listed row reaches it (the program writes EE0B03)" "${two[@]}" AA02AC ''
 table_says 0 "note: no empty line ends the rules; the program refuses that by 8 (it writes EE0800)" "${two[@]}" AA0203AF
 table_says 1 "the list: refused 10: row 2 is listed after row 3; a list rises (the program writes EE0A00)" "${two[@]}" AA0302AF ''
 grep -qF 'bit 0  row' <<<"$writes" && fail "of a list that is refused tools/table writes '$writes'"
@@ -257,7 +296,11 @@ table_says 1 "row 1: refused 3: b is 86400001; it may be a, which is 0, to 86400
 table_says 1 "row 1: refused 3: b is 2; it may be a, which is 3, to 86400000, or no end" "$true" "$(row 8 0 0 3 2)"
 mapfile -t full < <(for _ in {1..257}; do printf '%s\n' "$true"; done)
 table_says 1 "line 257: refused 1" "${full[@]}"
-table_says 0 "  0      -      -    bit 0  true at every event" "${full[@]:1}" AA00AA ''
+table_says 1 "row 1: refused 11: no listed row reaches it (the program writes EE0B01)" "${full[@]:1}" AA00AA ''
+table_says 1 "row 0: refused 11: the last row does not reach it, and there is no list (the program writes EE0B00)" "${full[@]:1}" ''
+[ "$(grep -c 'is dead: no row names it, and it is not the last' <<<"$writes")" -eq 255 ] || fail "of 255 dead rows tools/table writes '$writes'"
+mapfile -t chained < <(for x in {0..254}; do printf '2 %s 0 0 0\n' "$x"; done | rows)
+table_says 0 "255      -      -    bit 0  row 254 is false" "$true" "${chained[@]}" ''
 table_says 1 "line 1: refused 8: not 24 digits 0-9 A-F and a line feed (the program writes EE0800)" 00000000000000000000000a
 table_says 1 "it ends in CR LF, not in a line feed alone (the program writes EE0801)" "$true" "$true"$'\r'
 

@@ -191,12 +191,21 @@ def limits_fault(rule, _):
     return None
 
 
-def check_row(rule, row, ended):
-    """Refuses what the table check refuses of a row; `ended` says whether an empty line ends the rules."""
+def row_fault(rule, row):
+    """By which number the table check refuses a row, and why; or None."""
     for refusal, fault in ((2, form_fault), (3, limits_fault)):
         reason = fault(rule, row)
         if reason is not None:
-            raise Refused(f"row {row}", refusal, row, reason, ended)
+            return refusal, reason
+    return None
+
+
+def check_row(rule, row, ended):
+    """Refuses what the table check refuses of a row; `ended` says whether an empty line ends the rules."""
+    fault = row_fault(rule, row)
+    if fault is not None:
+        refusal, reason = fault
+        raise Refused(f"row {row}", refusal, row, reason, ended)
 
 
 def list_fault(listed, rows):
@@ -242,13 +251,21 @@ def lower_rows(rule):
     return [value for value, use in ((rule.x, kind.x), (rule.y, kind.y)) if use == LOWER]
 
 
-def unreached(rules, listed):
-    """The rows that no listed row reaches."""
-    reached = set(listed)
-    for row in range(len(rules) - 1, -1, -1):
-        if row in reached:
-            reached.update(lower_rows(rules[row]))
-    return [row for row in range(len(rules)) if row not in reached]
+def reached_from(rules, listed):
+    """Of each row of a table that passes the check, the listed rows that reach it; a row with none is dead. A listed row reaches itself."""
+    sources = [[] for _ in rules]
+    for source in listed:
+        reached = {source}
+        for row in range(source, -1, -1):
+            if row in reached:
+                reached.update(lower_rows(rules[row]))
+                sources[row].append(source)
+    return sources
+
+
+def naming(rules, row):
+    """The rows that name a row."""
+    return [other for other, rule in enumerate(rules) if row in lower_rows(rule)]
 
 
 def stop(script, status, message):

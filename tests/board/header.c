@@ -134,12 +134,14 @@ static void refused(uint32_t number, uint32_t row, const uint32_t *table, uint64
 }
 
 static void codes(void) {
-    SAME(MUK_VERSION, 4);
+    SAME(MUK_VERSION, 5);
     SAME(muk_version(), MUK_VERSION);
     SAME(MUK_HEARTBEAT, UINT32_C(1) << 31);
     SAME(MUK_MOVED, UINT32_C(1) << 31);
     SAME(MUK_LIST, 16);
     SAME(MUK_BAD_LIST, 10);
+    SAME(MUK_DEAD_ROW, 11);
+    SAME(refusal(MUK_DEAD_ROW, 255), 0xB00FF);
     SAME(muk_refusal(refusal(MUK_BAD_LIMITS, 255)), 3);
     SAME(muk_row(refusal(MUK_BAD_LIMITS, 255)), 255);
     SAME(muk_verdict(refusal(MUK_BAD_LIMITS, 255)), 0);
@@ -257,18 +259,84 @@ static void lists(void) {
     bad_list(far_over, 1);
     bad_list(cut, 1);
 
-    /* Sixteen bits of a verdict; a seventeenth number is one too many. */
+    /* Sixteen bits of a verdict; a seventeenth number is one too many. Row 16, "not row 0", reaches row 0. */
     memset(bits, 0, sizeof bits);
     for (row = 0; row < 17; row++) {
         bits[5 * row] = 1;
         bits[5 * row + 1] = rows[row] = row;
     }
-    SAME(muk_start(bits, 5 * 17, rows, MUK_LIST, NULL, 0, &record), 0);
-    SAME(muk_event(bits, 5 * 17, rows, MUK_LIST, NULL, 0, &record, 0, 0x1A5A5), 0xA5A5);
-    SAME(muk_event(bits, 5 * 17, rows + 1, MUK_LIST, NULL, 0, &record, 0, 0x1A5A5), 0xD2D2);
-    SAME(muk_event(bits, 5 * 17, rows, MUK_LIST, NULL, 0, &record, 0, 0x1FFFF), 0xFFFF);
-    SAME(muk_event(bits, 5 * 17, rows, 17, NULL, 0, &record, 0, 0x1FFFF), refusal(MUK_BAD_LIST, 0));
+    SAME(muk_start(bits, 5 * 16, rows, MUK_LIST, NULL, 0, &record), 0);
+    SAME(muk_event(bits, 5 * 16, rows, MUK_LIST, NULL, 0, &record, 0, 0xFA5A5), 0xA5A5);
+    SAME(muk_event(bits, 5 * 16, rows, MUK_LIST, NULL, 0, &record, 0, 0xFFFFF), 0xFFFF);
+    bits[5 * 16] = 2;
+    bits[5 * 16 + 1] = 0;
+    SAME(muk_start(bits, 5 * 17, rows + 1, MUK_LIST, NULL, 0, &record), 0);
+    SAME(muk_event(bits, 5 * 17, rows + 1, MUK_LIST, NULL, 0, &record, 0, 0xA5A4), 0xD2D2);
+    SAME(muk_event(bits, 5 * 17, rows, MUK_LIST, NULL, 0, &record, 0, 0xFFFF), refusal(MUK_DEAD_ROW, 16));
+    SAME(muk_event(bits, 5 * 17, rows, 17, NULL, 0, &record, 0, 0xFFFF), refusal(MUK_BAD_LIST, 0));
     SAME(muk_start(bits, 5 * 17, rows, 17, NULL, 0, &record), refusal(MUK_BAD_LIST, 0));
+}
+
+/* True; bit 0; not row 0; then each row "not" the one above it. A small board has no room for them but in read-only memory. */
+#define NOT(x) 2, x, 0, 0, 0
+#define FOUR(x) NOT(x), NOT(x + 1), NOT(x + 2), NOT(x + 3)
+#define SIXTEEN(x) FOUR(x), FOUR(x + 4), FOUR(x + 8), FOUR(x + 12)
+#define SIXTY_FOUR(x) SIXTEEN(x), SIXTEEN(x + 16), SIXTEEN(x + 32), SIXTEEN(x + 48)
+static const uint32_t most[5 * MUK_ROWS] = {0, 0, 0, 0, 0, 1, 0, 0, 0, 0, NOT(0), SIXTY_FOUR(2), SIXTY_FOUR(66), SIXTY_FOUR(130),
+                                            SIXTEEN(194), SIXTEEN(210), SIXTEEN(226), FOUR(242), FOUR(246), FOUR(250), NOT(254)};
+
+/* Refused 11 with this row, and after 10, for a table that passes the check: a start, an event, a frame and their heartbeats, also where the store is too
+ * short and the record is not sound. What the record and the store hold is what `start` leaves. */
+static void dead(uint32_t row, const uint32_t *table, uint64_t table_len, const uint32_t *rows, uint64_t rows_len) {
+    static const uint32_t no_row[] = {UINT32_MAX};
+    static const muk_record zero;
+    uint32_t count = ODD32;
+    uint64_t need = ODD64;
+    SAME(muk_check(table, table_len, &count, &need), 0);
+    SAME(count, table_len / 5);
+    start();
+    refused(MUK_DEAD_ROW, row, table, table_len, rows, rows_len, NEED, 1, 1);
+    refused(MUK_DEAD_ROW, row, table, table_len, rows, rows_len, 0, TIME_LIMIT + 1, 1);
+    refused(MUK_BAD_LIST, 0, table, table_len, no_row, 1, NEED, 1, 1);
+    record.rows = MUK_ROWS + 1;
+    refused(MUK_DEAD_ROW, row, table, table_len, rows, rows_len, NEED, 1, 1);
+    store[0] = ODD64;
+    SAME(muk_start(table, table_len, rows, rows_len, store, NEED, &record), refusal(MUK_DEAD_ROW, row));
+    SAME(store[0], ODD64);
+    SAME(store[NEED], PAST);
+    same_records(&record, &zero);
+    SAME(muk_start(table, table_len, rows, rows_len, NULL, 0, &record), refusal(MUK_DEAD_ROW, row));
+    same_records(&record, &zero);
+}
+
+static void dead_rows(void) {
+    /* Two bits, and a row that names both; that names row 1, since the y of "once" is no row; that names row 0 twice. A bit alone names no row. */
+    static const uint32_t named[] = {1, 0, 0, 0, 0, 1, 1, 0, 0, 0, 6, 0, 1, 0, 5}, once[] = {1, 0, 0, 0, 0, 1, 1, 0, 0, 0, 7, 1, 0, 0, 5};
+    static const uint32_t twice[] = {1, 0, 0, 0, 0, 1, 1, 0, 0, 0, 3, 0, 0, 0, 0}, bits[] = {1, 0, 0, 0, 0, 1, 0, 0, 0, 0};
+    static const uint32_t first[] = {0}, middle[] = {1}, last[] = {2}, ends[] = {0, 2}, lower[] = {0, 1};
+    static const uint32_t one_and_last[] = {1, MUK_ROWS - 1}, one_and_before[] = {1, MUK_ROWS - 2};
+
+    dead(0, once, 15, last, 1);
+    dead(1, twice, 15, last, 1);
+    dead(0, bits, 10, middle, 1);
+    dead(1, named, 15, first, 1);
+    dead(0, named, 15, middle, 1);
+    dead(2, named, 15, lower, 2);
+    dead(1, rules, NUMBERS, first, 1);
+    refused(MUK_BAD_LIMITS, 2, bad_limits, NUMBERS, first, 1, NEED, 1, 1);
+
+    /* The same stream with lists that leave no row dead and one that does, which changes nothing. */
+    SAME(muk_start(named, 15, last, 1, store, NEED, &record), 0);
+    SAME(muk_event(named, 15, ends, 2, store, NEED, &record, 10, 2), 2);
+    refused(MUK_DEAD_ROW, 2, named, 15, lower, 2, NEED, 10, 10);
+    SAME(muk_frame(named, 15, last, 1, store, NEED, &record, 15, 1), 1);
+    SAME(muk_start(once, 15, ends, 2, store, NEED, &record), 0);
+
+    /* As many rows as a table may have, all but the second reached from the last. */
+    SAME(muk_start(most, 5 * MUK_ROWS, one_and_last, 2, NULL, 0, &record), 0);
+    SAME(muk_event(most, 5 * MUK_ROWS, one_and_last, 2, NULL, 0, &record, 0, 1), 3);
+    dead(1, most, 5 * MUK_ROWS, one_and_last + 1, 1);
+    dead(MUK_ROWS - 1, most, 5 * MUK_ROWS, one_and_before, 2);
 }
 
 /* After a heartbeat: all but the clock and the spans of `row` is as it was before. There is one span, or none where its first is 0. */
@@ -382,6 +450,7 @@ int main(void) {
     starts();
     events();
     lists();
+    dead_rows();
     heartbeats();
     times();
     lines();

@@ -1,6 +1,6 @@
 /* The deepest stack of each function of the library, in bytes, its arguments and its return address among them: the stack is painted, a call is made,
  * and where the paint is gone the call has been. The calls are good and refused ones, events and heartbeats, over a table of 256 rows of every kind whose
- * spans fill their stretches, and a list of 16. */
+ * spans fill their stretches, and a list of 16 that reaches them all. */
 #include <stdio.h>
 
 #include "muktrashi.h"
@@ -12,10 +12,11 @@
 #define EVENTS 100
 #define NO_END UINT32_C(4294967295)
 
-/* Nine rows from row `at` on, one of them for each kind but those of the first two. A small board has no room for the table but in read-only memory. */
+/* Nine rows from row `at` on, one of them for each kind but those of the first two. The last three are named by the first three of the next nine, and the
+ * others by rows among them. A small board has no room for the table but in read-only memory. */
 #define SIX(at) \
     5, at + 2, 0, 0, 1, 6, 0, 1, 4, 4, 6, 0, at + 4, 1, 3, 6, at + 3, at + 5, 2, NO_END, 7, 1, 0, 4, 4, 8, 2, 0, 4, 4
-#define NINE(at) 2, at - 1, 0, 0, 0, 3, at, at - 1, 0, 0, 4, at + 1, at, 0, 0, SIX(at)
+#define NINE(at) 2, at - 1, 0, 0, 0, 3, at, at - 2, 0, 0, 4, at + 1, at - 3, 0, 0, SIX(at)
 #define TWENTY_SEVEN(at) NINE(at), NINE(at + 9), NINE(at + 18)
 #define EIGHTY_ONE(at) TWENTY_SEVEN(at), TWENTY_SEVEN(at + 27), TWENTY_SEVEN(at + 54)
 
@@ -87,6 +88,8 @@ static void refused(int function) {
     table_len = NUMBERS;
     list_len = 0;
     call(function);
+    list_len = 1; /* leaves rows dead */
+    call(function);
     list_len = MUK_LIST;
     store_len = 1;
     call(function);
@@ -127,6 +130,8 @@ int main(void) {
             refused(function);
         }
     }
+    list_len = 1;
+    call(START);
     table_len = store_len = 0;
     call(CHECK);
     call(START);

@@ -1,4 +1,5 @@
-//! Inputs, from a fixed seed: tables, lists, times, masks, heartbeats, sound records that no stream reaches, texts, and damage to each.
+//! Inputs, from a fixed seed: tables, lists that leave rows dead and lists that do not, times, masks, heartbeats, sound records that no stream reaches,
+//! texts, and damage to each.
 
 use crate::any_record::{stretches, NO_LAST};
 use crate::board::{Call, Checked, Line, Record, HEARTBEAT};
@@ -61,24 +62,40 @@ fn limits(random: &mut Random) -> (u32, u32) {
     }
 }
 
-/// A table that passes the check.
+/// A table that passes the check and that some list reaches: at most as many of its rows are named by none as a list names, often only the last.
 pub fn table(random: &mut Random) -> Vec<u32> {
-    let rows = if random.once_in(40) { random.between(1, ROW_LIMIT as u64) } else { random.between(1, 10) };
+    let rows = if random.once_in(40) { random.between(1, ROW_LIMIT as u64) } else { random.between(1, 10) } as u32;
+    let any = random.between(1, LIST_LIMIT as u64) as usize;
+    let most_unnamed = random.pick(&[1, 1, 2, any, LIST_LIMIT]);
+    let mut unnamed: Vec<u32> = Vec::new();
     let mut table = Vec::new();
     for row in 0..rows {
         let (any, busy) = (random.below(BITS as u64) as u32, random.below(BUSY_BITS) as u32);
         let bit = random.pick(&[busy, busy, busy, busy, busy, busy, any, BITS - 1]);
-        let kind = if row == 0 { random.below(2) } else { random.pick(&[0, 1, 1, 2, 3, 4, 5, 5, 6, 6, 6, 7, 7, 7, 8, 8, 8]) };
-        let [x, y] = [(); 2].map(|_| if row == 0 { 0 } else { random.below(row) as u32 });
+        let full = unnamed.len() == most_unnamed;
+        let names_rows = row > 0 && (full || !random.once_in(6));
+        let kind = if names_rows { random.pick(&[2, 3, 4, 5, 5, 6, 6, 6, 7, 7, 7, 8, 8, 8]) } else { random.pick(&[0, 1, 1]) };
+        let names_two = matches!(kind, 3 | 4 | 6);
+        let [mut x, mut y] = [(); 2].map(|_| if row == 0 { 0 } else { random.below(row as u64) as u32 });
+        if names_rows && (full || random.once_in(3)) {
+            let lower = random.pick(&unnamed);
+            if names_two && random.once_in(2) {
+                y = lower;
+            } else {
+                x = lower;
+            }
+        }
         let (a, b) = limits(random);
         table.extend(match kind {
             0 => [0, 0, 0, 0, 0],
             1 => [1, bit, 0, 0, 0],
             2 => [2, x, 0, 0, 0],
-            3 | 4 => [kind as u32, x, y, 0, 0],
+            3 | 4 => [kind, x, y, 0, 0],
             6 => [6, x, y, a, b],
-            _ => [kind as u32, x, 0, a, b],
+            _ => [kind, x, 0, a, b],
         });
+        unnamed.retain(|&lower| !(names_rows && lower == x || names_two && lower == y));
+        unnamed.push(row);
     }
     table
 }
@@ -112,6 +129,14 @@ fn row_count(table: &[u32]) -> usize {
     (table.len() / 5).clamp(1, ROW_LIMIT)
 }
 
+/// The rows that no row of a table names, if it passes the check.
+fn unnamed_rows(table: &[u32]) -> Vec<u32> {
+    let rows = table::check(table).unwrap_or_default();
+    let mut unnamed = vec![true; rows.len()];
+    rows.iter().flat_map(Formula::lower).for_each(|lower| unnamed[lower] = false);
+    (0..).zip(unnamed).filter_map(|(row, unnamed)| unnamed.then_some(row)).collect()
+}
+
 /// So many of the numbers below `rows`, rising.
 fn numbers_below(random: &mut Random, rows: usize, count: usize) -> Vec<u32> {
     let mut numbers: Vec<u32> = (0..rows as u32).collect();
@@ -121,8 +146,26 @@ fn numbers_below(random: &mut Random, rows: usize, count: usize) -> Vec<u32> {
     numbers
 }
 
-/// A list that passes for a table that passes; often of one row, and of the most that there can be.
+/// A list that leaves no row dead, of a table that some list reaches: the rows that no row names, and perhaps others; often of the fewest that there can be,
+/// and of the most.
 pub fn list(random: &mut Random, table: &[u32]) -> Vec<u32> {
+    let mut list = unnamed_rows(table);
+    if list.is_empty() || list.len() > LIST_LIMIT {
+        return any_list(random, table);
+    }
+    let most = row_count(table).min(LIST_LIMIT);
+    let any = random.between(list.len() as u64, most as u64) as usize;
+    let count = random.pick(&[list.len(), any, most]);
+    while list.len() < count {
+        list.push(random.below(row_count(table) as u64) as u32);
+        list.sort();
+        list.dedup();
+    }
+    list
+}
+
+/// A list that may leave rows dead, of a table that passes; often of one row, and of the most that there can be.
+pub fn any_list(random: &mut Random, table: &[u32]) -> Vec<u32> {
     let rows = row_count(table);
     let most = rows.min(LIST_LIMIT);
     let any = random.between(1, most as u64) as usize;

@@ -1,6 +1,7 @@
 //! Compares the library's functions for C with the two references, over a million calls, from a fixed seed: what each call answers, and all that it may
 //! write as it is left. Ends at the first difference, which it prints with its input, or with the count of calls. Both references read a table and a list by
-//! `table` and time a frame by `lines::time_of`. Given the name of a file, it writes some of the calls there; `calls` tells how.
+//! `table` and time a frame by `lines::time_of`; each finds dead rows in its own way. Given the name of a file, it writes some of the calls there; `calls`
+//! tells how.
 
 mod any_record;
 mod board;
@@ -62,7 +63,8 @@ fn compare_call(calls: &mut Calls, rules: Rules, kept: &mut Kept, call: Call) ->
     compare(calls, function, (rules, call), kept, board::call, any_record::call)
 }
 
-/// Streams from a start: both references, after the start and after each call. Some calls have another list than the start, which passes or does not.
+/// Streams from a start: both references, after the start and after each call. Some calls have another list than the start: one that leaves no row dead,
+/// one that may, or one that does not pass.
 fn streams(random: &mut Random, calls: &mut Calls) {
     for _ in 0..STREAMS {
         let table = inputs::table(random);
@@ -76,7 +78,11 @@ fn streams(random: &mut Random, calls: &mut Calls) {
         let mut clock = inputs::base(random);
         for _ in 0..STREAM_CALLS {
             let call = inputs::call(random, clock);
-            let mut list = if random.once_in(8) { inputs::list(random, &table) } else { listed.clone() };
+            let mut list = match random.below(16) {
+                0 | 1 => inputs::list(random, &table),
+                2 => inputs::any_list(random, &table),
+                _ => listed.clone(),
+            };
             if random.once_in(24) {
                 inputs::damage_list(random, &mut list, &table);
             }
@@ -92,7 +98,7 @@ fn streams(random: &mut Random, calls: &mut Calls) {
     }
 }
 
-/// Records that are sound but perhaps not reached, and damaged records, stores, tables and lists.
+/// Records that are sound but perhaps not reached, damaged records, stores, tables and lists, and lists that leave rows dead.
 fn unreached(random: &mut Random, calls: &mut Calls) {
     for _ in 0..UNREACHED {
         let mut table = inputs::table(random);
@@ -107,7 +113,7 @@ fn unreached(random: &mut Random, calls: &mut Calls) {
             5 => table = inputs::table(random),
             _ => {}
         }
-        let mut list = inputs::list(random, &table);
+        let mut list = if random.once_in(10) { inputs::any_list(random, &table) } else { inputs::list(random, &table) };
         if random.once_in(6) {
             inputs::damage_list(random, &mut list, &table);
         }
@@ -119,7 +125,8 @@ fn unreached(random: &mut Random, calls: &mut Calls) {
     }
 }
 
-/// Checks and starts of tables, good and damaged, with lists that pass and do not, on stores that are long enough and too short.
+/// Checks and starts of tables, good and damaged, with lists that leave no row dead, that may and that do not pass, on stores that are long enough
+/// and too short.
 fn tables(random: &mut Random, calls: &mut Calls) {
     for _ in 0..TABLES {
         let mut table = inputs::table(random);
@@ -133,7 +140,7 @@ fn tables(random: &mut Random, calls: &mut Calls) {
         let need = if code == 0 { checked.need.min(2_000) } else { 0 };
         let size = need + random.below(3);
         let words = inputs::words(random, size.saturating_sub(1));
-        let mut list = inputs::list(random, &table);
+        let mut list = if random.once_in(4) { inputs::any_list(random, &table) } else { inputs::list(random, &table) };
         if random.once_in(3) {
             inputs::damage_list(random, &mut list, &table);
         }

@@ -4,6 +4,7 @@
 use crate::board::{Call, Record, HEARTBEAT, MOVED};
 use crate::lines::time_of;
 use crate::table::{check_list, Formula, Interval, Refusal, TIME_LIMIT};
+use std::collections::BTreeSet;
 
 struct Event {
     time: u64,
@@ -27,6 +28,9 @@ impl History {
         if let Err(refusal) = check_list(list, &self.rows) {
             return refusal.code();
         }
+        if let Some(row) = self.dead(list) {
+            return Refusal::dead(row).code();
+        }
         let (time, mask) = match call {
             Call::Event { time, mask } => (time, mask),
             Call::Frame { counter, mask } => (time_of(self.clock, counter), mask),
@@ -47,6 +51,28 @@ impl History {
             self.events.last_mut().unwrap().truths.push(truth);
         }
         self.verdict(list)
+    }
+
+    /// The lowest row that is not reached. The listed rows are reached, and so are those that reached rows name, until no more come.
+    fn dead(&self, list: &[u32]) -> Option<usize> {
+        let mut reached: BTreeSet<usize> = list.iter().map(|&row| row as usize).collect();
+        loop {
+            let named = reached.iter().flat_map(|&row| self.named(row)).flatten();
+            let more: BTreeSet<usize> = named.chain(reached.iter().copied()).collect();
+            if more == reached {
+                return (0..self.rows.len()).find(|row| !reached.contains(row));
+            }
+            reached = more;
+        }
+    }
+
+    /// The rows that a row names as x and as y.
+    fn named(&self, row: usize) -> [Option<usize>; 2] {
+        match self.rows[row] {
+            Formula::True | Formula::Bit(_) => [None, None],
+            Formula::And(x, y) | Formula::Or(x, y) | Formula::Since(x, y, _) => [Some(x), Some(y)],
+            Formula::Not(x) | Formula::Previous(x, _) | Formula::Once(x, _) | Formula::Always(x, _) => [Some(x), None],
+        }
     }
 
     /// Bit k is the truth of the k-th listed row at the newest event.

@@ -1,5 +1,5 @@
 //! The rule table of document 01, with the kinds 7 and 8 of document 02, E1, and without bit 31 (E2): the limits, the formula of each row, the check,
-//! spans and need; and the list of the rows that are judged (E4). A table has up to 256 rows (E6).
+//! spans and need; and the list of the rows that are judged (E4), from which every row is reached (E8). A table has up to 256 rows (E6).
 
 pub const ROW_LIMIT: usize = 256;
 pub const KINDS: u32 = 9;
@@ -35,6 +35,11 @@ impl Refusal {
     /// One that gives no row.
     pub fn of(number: u32) -> Refusal {
         Refusal { number, row: 0 }
+    }
+
+    /// Refusal 11, of the lowest row that is not reached.
+    pub fn dead(row: usize) -> Refusal {
+        Refusal { number: 11, row: row as u32 }
     }
 
     /// As C is told of it.
@@ -81,6 +86,15 @@ impl Formula {
         match *self {
             Formula::Since(_, _, interval) | Formula::Once(_, interval) | Formula::Always(_, interval) => Some(interval),
             _ => None,
+        }
+    }
+
+    /// The rows that a row names.
+    pub fn lower(&self) -> Vec<usize> {
+        match *self {
+            Formula::True | Formula::Bit(_) => vec![],
+            Formula::Not(x) | Formula::Previous(x, _) | Formula::Once(x, _) | Formula::Always(x, _) => vec![x],
+            Formula::And(x, y) | Formula::Or(x, y) | Formula::Since(x, y, _) => vec![x, y],
         }
     }
 }
@@ -153,10 +167,24 @@ pub fn check_list(list: &[u32], rows: &[Formula]) -> Result<(), Refusal> {
     Ok(())
 }
 
-/// Refusals 1 to 3, 10 and 4, or the rows.
+/// Refusal 11, or every row is reached from the list: down from the listed rows, each row that is found is looked into once.
+fn check_reached(list: &[u32], rows: &[Formula]) -> Result<(), Refusal> {
+    let mut found = vec![false; rows.len()];
+    let mut waiting: Vec<usize> = list.iter().map(|&row| row as usize).collect();
+    while let Some(row) = waiting.pop() {
+        if !found[row] {
+            found[row] = true;
+            waiting.extend(rows[row].lower());
+        }
+    }
+    found.iter().position(|&found| !found).map_or(Ok(()), |row| Err(Refusal::dead(row)))
+}
+
+/// Refusals 1 to 3, 10, 11 and 4, or the rows.
 pub fn ready(rules: Rules, store: usize) -> Result<Vec<Formula>, Refusal> {
     let rows = check(rules.table)?;
     check_list(rules.list, &rows)?;
+    check_reached(rules.list, &rows)?;
     if (store as u64) < need(&rows) {
         return Err(Refusal::of(4));
     }
