@@ -8,7 +8,7 @@ ghost use Rattle.monitor.specs.Step as Step;
 ghost use Rattle.soundness.specs.Setup.{setupOf};
 ghost use Rattle.board.specs.Left.{CallLeaves};
 
-// Refusals 1 to 3, 10, 4, then 7, 6, 5, or the verdict; of a heartbeat, that the clock moved.
+// Refusals 1 to 3, 10, 11, 4, then 7, 6, 5, or the verdict; of a heartbeat, that the clock moved.
 #[no_mangle]
 pub extern "C" fn muk_event(
     table: &[u32],

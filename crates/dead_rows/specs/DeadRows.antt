@@ -1,4 +1,5 @@
--- The lowest dead row, computed from each listed row down. That the test tells exactly the rows which are reached is `reached-told`.
+-- The lowest dead row (document 02, E8), computed from each listed row down. That the test tells exactly the rows which are reached is `reached-told` of the
+-- laws, and of a setup that passes `row-reached-told` of the promises.
 use mathlib.Core.Bool.{Bool, false, cond, _&&_, _||_}
 use mathlib.Core.List.{List, [], _∷_}
 use Prim.Native.Nat.{ℕ, zero, suc}
@@ -8,7 +9,7 @@ use Rattle.rules.specs.Rows.{numbersAt}
 use Rattle.rules.specs.RowFormula.{below}
 use Rattle.rules.specs.declared.numbers.Numbers.{Numbers}
 
--- Whether a row names one that a test is passed by.
+-- Whether a row names one that passes a test.
 abbrev pub namesSome : (ℕ → Bool) → Numbers → Bool
 namesSome test n = (isLower (kindAt (n .kind) .x) && test (n .x)) || (isLower (kindAt (n .kind) .y) && test (n .y))
 
@@ -19,7 +20,7 @@ reachesBy table to row lower = eqb row to || namesSome lower (numbersAt table ro
 unfoldable pub reaches : (table : List ℕ) (from to : ℕ) → Bool
 reaches table from to = below false (reachesBy table to) (suc from) from
 
--- Whether a listed row of so many reaches a row.
+-- Whether a listed row, one of so many, reaches a row.
 unfoldable pub reached? : (table list : List ℕ) (rows row : ℕ) → Bool
 reached? table [] rows row = false
 reached? table (from ∷ list) rows row = (ltb from rows && reaches table from row) || reached? table list rows row

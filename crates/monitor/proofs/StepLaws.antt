@@ -58,7 +58,7 @@ unfolding stepOf
 left-refused setup store e rows truths counts call fault h =
     record { replied = rw h; seen-is = rw h; clock-is = rw h; last-is = rw h; truths-are = rw h; counts-are = rw h; store-is = rw h }
 
--- 1 to 3, 10, 4 and 7.
+-- 1 to 3, 10, 11, 4 and 7.
 fit-refused-by : (sound : Bool) (ready : CheckReply) (rest : Option Refused) (fault : Refused) → refusedBy fault ≡ withSound sound ready
     → (refusalIn ready orElse unless sound Unsound orElse rest) ≡ some fault
 fit-refused-by sound (refusedBy other) rest fault h = cc

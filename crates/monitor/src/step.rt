@@ -28,7 +28,8 @@ ghost use Rattle.soundness.specs.Setup.{setupOf};
 ghost use Rattle.soundness.specs.Ready.{readyOf, refusalIn};
 ghost use Rattle.monitor.specs.Step.{event, frame, StepGives};
 
-// The verdict on an event, that a heartbeat moved the clock, or a refusal 1 to 3, 10, 4, 7, 6 or 5, with the record after it. No word past the need is written.
+// The verdict on an event, that a heartbeat moved the clock, or a refusal 1 to 3, 10, 11, 4, 7, 6 or 5, with the record after it. No word past the need is
+// written.
 pub fn event(
     table: &[u32],
     list: &[u32],
@@ -88,7 +89,7 @@ pub(crate) struct Told {
     pub(crate) last: u64,
 }
 
-// Refusals 1 to 3, 10, 4 and 7, then what a sound record is answered.
+// Refusals 1 to 3, 10, 11, 4 and 7, then what a sound record is answered.
 fn judge(
     table: &[u32],
     list: &[u32],

@@ -1,5 +1,5 @@
 -- Refused calls between the calls of a stream. A stream (`Stream`) has one table and one list and lends the whole store, so only 5 and 6 occur in it; a call
--- with another table or list, or with too few words lent, may be refused 1 to 4, 10 or 7, and takes nothing from the monitor. For every list of attempts,
+-- with another table or list, or with too few words lent, may be refused 1 to 4, 10, 11 or 7, and takes nothing from the monitor. For every list of attempts,
 -- from any state: where those that are accepted have one setup, however many words each was lent, what they are answered, the record and every word are
 -- those of the stream of the accepted calls. Of accepted calls with another list see `OtherList`.
 -- So demands 2 and 3 speak of them. From `started setup store`, after a good start, that stream is `state setup store calls` with `calls` the accepted

@@ -1,4 +1,4 @@
--- `monitor::step::judge` meets its contract: a refusal 1 to 3, 10, 4 or 7, or what `judge_sound` says. Assumes nothing.
+-- `monitor::step::judge` meets its contract: a refusal 1 to 3, 10, 11, 4 or 7, or what `judge_sound` says. Assumes nothing.
 use mathlib.Core.Path.{_≡_, sym, ap, _∙_}
 use denote.Ref.{now}
 use borrow.Author.Needs.{needs}
