@@ -76,7 +76,7 @@ begun setup lines start = by (start .refusal)
 unfoldable pub setupThen : Setup → List (List ℕ) → List ℕ
 setupThen setup lines = begun setup lines (startOf setup emptyStore)
 
--- "no list means the last row alone".
+-- "no list means the last row alone" (document 02, E4); "Without a list the last row counts as listed" (E8).
 abbrev pub lastRow : ℕ → List ℕ
 lastRow rows = (rows - 1) ∷ []
 
