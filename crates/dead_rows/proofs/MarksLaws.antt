@@ -3,8 +3,7 @@ use mathlib.Core.Bool.{Bool, true, false}
 use mathlib.Core.List.{List, [], _∷_}
 use mathlib.Core.Logic.{_⊎_, inl, inr, ⊎-elim}
 use mathlib.Core.Path.{_≡_, refl, sym, subst, _∙_}
-use Prim.Native.Nat.{ℕ, zero, suc, _+_, _≤_, _<_}
-use native.Mathlib.Nat.{le-of-suc-le-suc}
+use Prim.Native.Nat.{ℕ, suc, _+_, _≤_, _<_}
 use native.Mathlib.Numerals.{add-one}
 use native.Mathlib.Omega.{arith}
 use lib.ListN.{length, getD, set, drop, length-set, drop-of-length-le}
@@ -18,7 +17,8 @@ use Rattle.kinds.specs.declared.table.Use.the-variants.{Lower}
 use Rattle.rules.specs.declared.numbers.Numbers.{Numbers}
 use Rattle.dead_rows.specs.Reached.{RowNames, by-x, by-y}
 use Rattle.dead_rows.specs.Marks.{markedBelow, markedWhere, markedNamed, markedListed}
-use Rattle.dead_rows.proofs.ReachedLaws.{lower-use-told}
+use Rattle.kinds.proofs.KindsLaws.{lower-use-told}
+use Rattle.dead_rows.proofs.ReachedLaws.{Somewhere, nowhere, somewhere, here-or-later}
 
 abbrev pub Marked : List Bool → ℕ → Type 0
 Marked marks row = getD marks row false ≡ true
@@ -79,8 +79,12 @@ module _ (marks : List Bool) (at : ℕ) (inside : at < length marks) where
       (λ differs. inl (sym (getD-set-other marks at row true false differs) ∙ marked))
       (tells-decided (tells-eqb row at))
 
+-- A number that is a row, and below a bound.
+abbrev pub Below : (bound row : ℕ) → ℕ → Type 0
+Below bound row at = (at ≡ row) × (at < bound)
+
 pub below-added : (bound at : ℕ) (marks : List Bool) → bound ≤ length marks
-    → Added (λ (row : ℕ). (at ≡ row) × (at < bound)) marks (markedBelow bound at marks)
+    → Added (λ (row : ℕ). Below bound row at) marks (markedBelow bound at marks)
 unfolding markedBelow
 below-added bound at marks room =
     ⊎-elim
@@ -95,29 +99,30 @@ below-added bound at marks room =
     (λ past. rw (le-ltb at bound (omega arith)) (added-none marks (λ row is. omega (arith, is .1))))
     (le-or-lt (suc at) bound)
 
+-- A number that is used as a lower row, and is one.
+abbrev LowerBy : Use → (bound at : ℕ) → ℕ → Type 0
+LowerBy usage bound at row = (usage ≡ Lower) × Below bound row at
+
 pub where-added : (usage : Use) (bound at : ℕ) (marks : List Bool) → bound ≤ length marks
-    → Added (λ (row : ℕ). (usage ≡ Lower) × (at ≡ row) × (at < bound)) marks (markedWhere usage bound at marks)
+    → Added (LowerBy usage bound at) marks (markedWhere usage bound at marks)
 unfolding markedWhere
 where-added usage bound at marks room =
     ⊎-elim
     (λ lower.
     rw (told-true (lower-use-told usage) lower)
-    (added-same marks (markedBelow bound at marks) (λ row is. (lower, is .0, is .1)) (λ row is. (is .1, is .2))
+    (added-same marks (markedBelow bound at marks) (λ row is. (lower, is)) (λ row is. is .1)
     (below-added bound at marks room)))
     (λ other. rw (told-false (lower-use-told usage) other) (added-none marks (λ row is. other (is .0))))
     (tells-decided (lower-use-told usage))
 
 -- The rows that a row names, and which are lower.
 module _ (n : Numbers) (bound : ℕ) where
-  abbrev LowerBy : Use → ℕ → ℕ → Type 0
-  LowerBy usage at row = (usage ≡ Lower) × (at ≡ row) × (at < bound)
-
   abbrev k : Kind
   k = kindAt (n .kind)
 
-  names-either : (row : ℕ) → RowNames n row → row < bound → LowerBy (k .x) (n .x) row ⊎ LowerBy (k .y) (n .y) row
-  names-either row (by-x lower same) within = inl (lower, same, omega arith)
-  names-either row (by-y lower same) within = inr (lower, same, omega arith)
+  names-either : (row : ℕ) → RowNames n row → row < bound → LowerBy (k .x) bound (n .x) row ⊎ LowerBy (k .y) bound (n .y) row
+  names-either row (by-x lower same) within = inl (lower, (same, omega arith))
+  names-either row (by-y lower same) within = inr (lower, (same, omega arith))
 
   pub named-added : (marks : List Bool)
       → bound ≤ length marks
@@ -129,41 +134,23 @@ module _ (n : Numbers) (bound : ℕ) where
       added-same marks (markedWhere (k .y) bound (n .y) between)
       (λ row.
       ⊎-elim
-      (λ is. (by-x (is .0) (is .1), omega (arith, is .1, is .2)))
-      (λ is. (by-y (is .0) (is .1), omega (arith, is .1, is .2))))
+      (λ is. (by-x (is .0) (is .1 .0), omega (arith, is .1)))
+      (λ is. (by-y (is .0) (is .1 .0), omega (arith, is .1))))
       (λ row is. names-either row (is .0) (is .1))
       (added-both marks between (markedWhere (k .y) bound (n .y) between) first
       (where-added (k .y) bound (n .y) between (omega (arith, first .size))))
 
--- A listed row of so many.
-pub record ListedAt (list : List ℕ) (rows row : ℕ) : Type 0 where
-  pub place : ℕ
-  pub inside : place < length list
-  pub same : getD list place 0 ≡ row
-  pub within : row < rows
-
-pub listed-added : (rows : ℕ) (list : List ℕ) (marks : List Bool) → rows ≤ length marks → Added (ListedAt list rows) marks (markedListed rows list marks)
+pub listed-added : (rows : ℕ) (list : List ℕ) (marks : List Bool) → rows ≤ length marks
+    → Added (λ (row : ℕ). Somewhere (Below rows row) list) marks (markedListed rows list marks)
 unfolding markedListed
-listed-added rows [] marks room = added-none marks (λ row is. omega (arith, is .inside))
+listed-added rows [] marks room = added-none marks (λ row. nowhere (Below rows row))
 listed-added rows (at ∷ list) marks room =
     let between : List Bool = markedBelow rows at marks in
     let first = below-added rows at marks room in
     added-same marks (markedListed rows list between)
-    (λ row.
-    ⊎-elim
-    (λ here. record { place = 0; inside = omega arith; same = here .0; within = omega (arith, here .0, here .1) })
-    (λ later. record { place = suc (later .place); inside = omega (arith, later .inside); same = later .same; within = later .within }))
-    (λ row is. back row (is .place) (is .inside) (is .same) (is .within))
+    (λ row. somewhere (Below rows row) at list)
+    (λ row. here-or-later (Below rows row) at list)
     (added-both marks between (markedListed rows list between) first (listed-added rows list between (omega (arith, first .size))))
-  where
-    back : (row place : ℕ)
-        → place < suc (length list)
-        → getD (at ∷ list) place 0 ≡ row
-        → row < rows
-        → ((at ≡ row) × (at < rows)) ⊎ ListedAt list rows row
-    back row zero inside same within = inl (same, omega arith)
-    back row (suc place) inside same within =
-        inr (record { place = place; inside = le-of-suc-le-suc inside; same = same; within = within })
 
 -- As the loop goes.
 module _ (rows : ℕ) (list : List ℕ) (marks : List Bool) (place : ℕ) where

@@ -11,11 +11,9 @@ use lib.ListN.{length, getD}
 use borrow.Author.Tests.{lt-ltb, le-ltb}
 use Rattle.meaning.proofs.SpansLaws.{le-or-lt}
 use Rattle.meaning.proofs.Tells.{Tells, tells-flag, tells-ltb, tells-eqb, tells-and, tells-or, tells-same, told-true}
-use Rattle.meaning.proofs.Truths.{zero-not-one}
-use Rattle.kinds.specs.Kinds.{Kind, kindAt, isLower}
-use Rattle.kinds.specs.declared.table.Use.{Use}
-use Rattle.kinds.specs.declared.table.Use.the-variants.{Unused, Bit, Lower, Limit}
-use Rattle.kinds.proofs.KindsLaws.{lower-told}
+use Rattle.kinds.specs.Kinds.{Kind, kindAt}
+use Rattle.kinds.specs.declared.table.Use.the-variants.{Lower}
+use Rattle.kinds.proofs.KindsLaws.{lower-use-told, lower-told}
 use Rattle.rules.specs.Rows.{numbersAt}
 use Rattle.rules.specs.RowFormula.{below}
 use Rattle.rules.specs.declared.numbers.Numbers.{Numbers}
@@ -23,12 +21,6 @@ use Rattle.rules.proofs.RowFitsLaws.{RowFits}
 use Rattle.rules.proofs.RowFormulaLaws.{below-at, below-past}
 use Rattle.dead_rows.specs.Reached.{RowNames, by-x, by-y, Reached, listed, named}
 use Rattle.dead_rows.specs.DeadRows.{namesSome, reachesBy, reaches, reached?}
-
-pub lower-use-told : (usage : Use) → Tells (isLower usage) (usage ≡ Lower)
-lower-use-told Unused = record { sound = λ none. absurd none; complete = λ e. zero-not-one cc }
-lower-use-told Bit = record { sound = λ none. absurd none; complete = λ e. zero-not-one cc }
-lower-use-told Lower = record { sound = λ _. refl; complete = λ _. tt }
-lower-use-told Limit = record { sound = λ none. absurd none; complete = λ e. zero-not-one cc }
 
 -- A row that passes names only lower rows.
 pub named-lower : (r : ℕ) (n : Numbers) (row : ℕ) → RowFits r n → RowNames n row → row < r
@@ -140,33 +132,41 @@ module _ (table : List ℕ) where
       → T (reaches table from row)
   onward from middle row = onward-below (suc from) from middle row (omega arith)
 
--- A listed row, of so many, that reaches a row.
-pub record FoundIn (table list : List ℕ) (rows row : ℕ) : Type 0 where
+-- Something holds of a number of a list, and of which: of the first, or of a later one.
+pub record Somewhere (Holds : ℕ → Type 0) (list : List ℕ) : Type 0 where
   pub place : ℕ
   pub inside : place < length list
-  pub within : getD list place 0 < rows
-  pub reaching : T (reaches table (getD list place 0) row)
+  pub holds : Holds (getD list place 0)
+
+pub nowhere : (Holds : ℕ → Type 0) → ¬ Somewhere Holds []
+nowhere Holds found = omega (arith, found .inside)
+
+pub somewhere : (Holds : ℕ → Type 0) (first : ℕ) (list : List ℕ) → Holds first ⊎ Somewhere Holds list → Somewhere Holds (first ∷ list)
+somewhere Holds first list =
+    ⊎-elim
+    (λ here. record { place = 0; inside = omega arith; holds = here })
+    (λ later. record { place = suc (later .place); inside = omega (arith, later .inside); holds = later .holds })
+
+pub here-or-later : (Holds : ℕ → Type 0) (first : ℕ) (list : List ℕ) → Somewhere Holds (first ∷ list) → Holds first ⊎ Somewhere Holds list
+here-or-later Holds first list found = by (found .place) (found .inside) (found .holds)
+  where
+    by : (place : ℕ) → place < suc (length list) → Holds (getD (first ∷ list) place 0) → Holds first ⊎ Somewhere Holds list
+    by zero inside holds = inl holds
+    by (suc place) inside holds = inr (record { place = place; inside = le-of-suc-le-suc inside; holds = holds })
+
+-- A listed row, of so many, that reaches a row.
+abbrev pub Reaching : (table : List ℕ) (rows row : ℕ) → ℕ → Type 0
+Reaching table rows row from = (from < rows) × T (reaches table from row)
+
+abbrev pub FoundIn : (table list : List ℕ) (rows row : ℕ) → Type 0
+FoundIn table list rows row = Somewhere (Reaching table rows row) list
 
 pub found-told : (table list : List ℕ) (rows row : ℕ) → Tells (reached? table list rows row) (FoundIn table list rows row)
 unfolding reached?
-found-told table [] rows row =
-    record { sound = λ none. absurd none; complete = λ found. absurd (omega (arith, found .inside)) }
+found-told table [] rows row = record { sound = λ none. absurd none; complete = nowhere (Reaching table rows row) }
 found-told table (from ∷ list) rows row =
-    tells-same
-    (⊎-elim
-    (λ here. record { place = 0; inside = omega arith; within = here .0; reaching = here .1 })
-    (λ later. record { place = suc (later .place); inside = omega (arith, later .inside); within = later .within; reaching = later .reaching }))
-    (λ found. back (found .place) (found .inside) (found .within) (found .reaching))
+    tells-same (somewhere (Reaching table rows row) from list) (here-or-later (Reaching table rows row) from list)
     (tells-or (tells-and (tells-ltb from rows) (tells-flag (reaches table from row))) (found-told table list rows row))
-  where
-    back : (place : ℕ)
-        → place < suc (length list)
-        → getD (from ∷ list) place 0 < rows
-        → T (reaches table (getD (from ∷ list) place 0) row)
-        → ((from < rows) × T (reaches table from row)) ⊎ FoundIn table list rows row
-    back zero inside within reaching = inl (within, reaching)
-    back (suc place) inside within reaching =
-        inr (record { place = place; inside = le-of-suc-le-suc inside; within = within; reaching = reaching })
 
 -- The test tells which rows are reached, where the rows pass and the listed ones are among them.
 module _ (table list : List ℕ) (rows : ℕ) (fit : (row : ℕ) → row < rows → RowFits row (numbersAt table row))
@@ -174,7 +174,7 @@ module _ (table list : List ℕ) (rows : ℕ) (fit : (row : ℕ) → row < rows 
   reached-found : (row : ℕ) → Reached table list row → (row < rows) × FoundIn table list rows row
   reached-found _ (listed place inside) = (
     within place inside,
-    record { place = place; inside = inside; within = within place inside; reaching = reaches-self table (getD list place 0) },
+    record { place = place; inside = inside; holds = (within place inside, reaches-self table (getD list place 0)) },
   )
   reached-found _ (named row from reached names) =
       let above : (from < rows) × FoundIn table list rows from = reached-found from reached in
@@ -183,8 +183,7 @@ module _ (table list : List ℕ) (rows : ℕ) (fit : (row : ℕ) → row < rows 
         record {
           place = above .1 .place;
           inside = above .1 .inside;
-          within = above .1 .within;
-          reaching = onward table (getD list (above .1 .place) 0) from row (above .1 .reaching) names lower;
+          holds = (above .1 .holds .0, onward table (getD list (above .1 .place) 0) from row (above .1 .holds .1) names lower);
         },
       )
 
@@ -193,6 +192,6 @@ module _ (table list : List ℕ) (rows : ℕ) (fit : (row : ℕ) → row < rows 
       tells-same
       (λ found.
       handed-on table (Reached table list) (λ from row reached names lower. named row from reached names) (getD list (found .place) 0) row
-      (listed (found .place) (found .inside)) (found .reaching))
+      (listed (found .place) (found .inside)) (found .holds .1))
       (λ reached. reached-found row reached .1)
       (found-told table list rows row)

@@ -82,7 +82,7 @@ module _ (table list : List ℕ) (rows : ℕ) where
       let added = listed-added rows list (replicate rowLimit false) (omega arith) in
       record {
         size = added .size ∙ size;
-        listed = λ place inside within. added .such (getD list place 0) (record { place = place; inside = inside; same = refl; within = within });
+        listed = λ place inside within. added .such (getD list place 0) (record { place = place; inside = inside; holds = (refl, within) });
         named = λ from lower past within marked names below. absurd (omega arith);
         only = λ r marked.
             ⊎-elim
@@ -92,9 +92,10 @@ module _ (table list : List ℕ) (rows : ℕ) where
             (record {
               place = is .place;
               inside = is .inside;
-              within = omega (arith, is .same, is .within);
-              reaching =
-                  subst (λ (at : ℕ). T (reaches table (getD list (is .place) 0) at)) (is .same) (reaches-self table (getD list (is .place) 0));
+              holds = (
+                is .holds .1,
+                subst (λ (at : ℕ). T (reaches table (getD list (is .place) 0) at)) (is .holds .0) (reaches-self table (getD list (is .place) 0)),
+              );
             }))
             (added .only r marked);
         few = omega arith;
@@ -130,8 +131,7 @@ module _ (table list : List ℕ) (rows : ℕ) where
               (record {
                 place = found .place;
                 inside = found .inside;
-                within = found .within;
-                reaching = onward table (getD list (found .place) 0) row r (found .reaching) (is .0) (is .1);
+                holds = (found .holds .0, onward table (getD list (found .place) 0) row r (found .holds .1) (is .0) (is .1));
               }))
               (added .only r r-marked);
           few = swept .few;
@@ -173,6 +173,6 @@ module _ (table list : List ℕ) (rows : ℕ) where
       (λ (r : ℕ). (r < rows) × Marked marks r)
       (λ from r holds names below. (omega (arith, holds .0), swept .named from r (omega arith) (holds .0) (holds .1) names below))
       (getD list (found .place) 0) dead
-      (found .within, swept .listed (found .place) (found .inside) (found .within))
-      (found .reaching)
+      (found .holds .0, swept .listed (found .place) (found .inside) (found .holds .0))
+      (found .holds .1)
       .1)))

@@ -1,5 +1,4 @@
--- Laws of the table of kinds: what a rule asks of the line that has it, tests over all lines, and what a number
--- that fits its use is.
+-- Laws of the table of kinds: what a rule asks of the line that has it, tests over all lines, and what a number that fits its use is.
 use mathlib.Core.Bool.{Bool, true, false, not, _&&_}
 use mathlib.Core.List.{List, [], _∷_}
 use mathlib.Core.Path.{_≡_, refl, sym}
@@ -8,7 +7,7 @@ use native.Mathlib.Omega.{arith}
 use native.Mathlib.Nat.{le-of-suc-le-suc, not-suc-le-zero}
 use lib.ListN.{length, getD, List·getD-eq-default}
 use Rattle.meaning.proofs.Tells.{Tells, tells-ltb, tells-eqb}
-use Rattle.meaning.proofs.Truths.{no-truth, and-left, and-right}
+use Rattle.meaning.proofs.Truths.{zero-not-one, no-truth, and-left, and-right}
 use Rattle.meaning.specs.Heartbeat.{heartbeatBit}
 use Rattle.kinds.specs.Kinds.{Rule, plain, stretch, Kind, kind, kinds, kindAt, hasStretch, ownsStretch, columnsOf, plainOf, isLower, fits}
 use Rattle.kinds.specs.declared.table.Use.{Use}
@@ -93,6 +92,13 @@ fits-told r Unused number = tells-eqb number 0
 fits-told r Bit number = tells-ltb number heartbeatBit
 fits-told r Lower number = tells-ltb number r
 fits-told r Limit number = record { sound = λ _. tt; complete = λ _. tt }
+
+-- Which use is that of a lower row.
+pub lower-use-told : (usage : Use) → Tells (isLower usage) (usage ≡ Lower)
+lower-use-told Unused = record { sound = λ none. absurd none; complete = λ e. zero-not-one cc }
+lower-use-told Bit = record { sound = λ none. absurd none; complete = λ e. zero-not-one cc }
+lower-use-told Lower = record { sound = λ _. refl; complete = λ _. tt }
+lower-use-told Limit = record { sound = λ none. absurd none; complete = λ e. zero-not-one cc }
 
 -- A number that is used as a lower row is lower, and one that is used as a bit is below the heartbeat's.
 pub lower-told : (r : ℕ) (usage : Use) (number : ℕ) → isLower usage ≡ true → Fits r usage number → number < r

@@ -8,6 +8,7 @@ use mathlib.Core.Path.{_≡_, refl, sym, ap, _∙_}
 use Prim.Native.Nat.{ℕ, zero, suc, _+_, _≤_, _<_}
 use native.Mathlib.Omega.{arith}
 use borrow.Author.Tests.{le-leb}
+use lib.Dec.{ltb}
 use lib.ListN.{length, take, drop, replicate, length-replicate}
 use lib.Seq.{length-take-le, take-take, take-add, take-at, drop-at}
 use Rattle.refusals.specs.Refusals.{Refused}
@@ -20,7 +21,6 @@ use Rattle.soundness.specs.declared.record.Record.{Record}
 use Rattle.soundness.specs.Record.{stretchAt, clockOf}
 use Rattle.soundness.specs.Soundness.{every, soundRow?, sound?}
 use Rattle.meaning.proofs.Truths.{by-test}
-use lib.Dec.{ltb}
 use Rattle.row_list.specs.RowList.{listPasses}
 use Rattle.dead_rows.specs.DeadRows.{lowestDead}
 use Rattle.soundness.specs.Ready.{readyOf}

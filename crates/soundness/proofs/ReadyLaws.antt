@@ -6,7 +6,7 @@ use mathlib.Core.Path.{_≡_, refl, sym}
 use Prim.Native.Nat.{ℕ, _≤_, min}
 use native.Mathlib.Omega.{arith}
 use lib.Dec.{leb, ltb}
-use borrow.Author.Tests.{leb-true, ltb-false}
+use borrow.Author.Tests.{leb-true}
 use Rattle.rules.specs.Limits.{rowLimit}
 use Rattle.rules.specs.Rows.{rowsOf}
 use Rattle.rules.specs.Stretches.{needOf}
@@ -61,20 +61,13 @@ list-parts list rows need (passed r n) h = go (listPasses list r) refl h
         (e, rw same at tested)
     go false tested e = let z : _≡_ {A = ℕ} 0 1 = cc in absurd (omega arith)
 
-reached-parts : (table list : List ℕ) (rows need : ℕ) (said : CheckReply)
-    → withReached table list said ≡ passed rows need
-    → (said ≡ passed rows need) × (rows ≤ lowestDead table list rows)
+reached-parts : (table list : List ℕ) (rows need : ℕ) (said : CheckReply) → withReached table list said ≡ passed rows need → said ≡ passed rows need
 reached-parts table list rows need (refusedBy fault) h = let z : _≡_ {A = ℕ} 0 1 = cc in absurd (omega arith)
-reached-parts table list rows need (passed r n) h = go (ltb (lowestDead table list r) r) refl h
+reached-parts table list rows need (passed r n) h = go (ltb (lowestDead table list r) r) h
   where
-    go : (b : Bool)
-        → ltb (lowestDead table list r) r ≡ b
-        → cond b (refusedBy (refused (DeadRow (lowestDead table list r)))) (passed r n) ≡ passed rows need
-        → (passed r n ≡ passed rows need) × (rows ≤ lowestDead table list rows)
-    go true dead e = let z : _≡_ {A = ℕ} 0 1 = cc in absurd (omega arith)
-    go false dead e =
-        let same : r ≡ rows = cc in
-        (e, rw same at (ltb-false (lowestDead table list r) r dead))
+    go : (b : Bool) → cond b (refusedBy (refused (DeadRow (lowestDead table list r)))) (passed r n) ≡ passed rows need → passed r n ≡ passed rows need
+    go true e = let z : _≡_ {A = ℕ} 0 1 = cc in absurd (omega arith)
+    go false e = e
 
 -- What is left to decide where table and list pass. Such a table has no more rows than are looked at for a dead one.
 pub ready-listed : (table list : List ℕ) (size : ℕ) {rows need dead : ℕ}
@@ -93,7 +86,6 @@ ready-listed table list size {rows} {need} {dead} checked passes told =
 pub record ReadyParts (setup : Setup) (size rows need : ℕ) : Type 0 where
   pub checked : checkOf (setup .table) ≡ passed rows need
   pub listed : listPasses (setup .list) rows ≡ true
-  pub reached : rows ≤ lowestDead (setup .table) (setup .list) rows
   pub room : need ≤ size
 
 pub ready-parts : (setup : Setup) (size rows need : ℕ) → readyOf setup size ≡ passed rows need → ReadyParts setup size rows need
@@ -102,25 +94,20 @@ ready-parts setup size rows need h =
     let listed : CheckReply = withList (setup .list) (checkOf (setup .table)) in
     let rooms = room-parts size rows need (withReached (setup .table) (setup .list) listed) h in
     let reaches = reached-parts (setup .table) (setup .list) rows need listed (rooms .0) in
-    let lists = list-parts (setup .list) rows need (checkOf (setup .table)) (reaches .0) in
-    record { checked = lists .0; listed = lists .1; reached = reaches .1; room = rooms .1 }
+    let lists = list-parts (setup .list) rows need (checkOf (setup .table)) reaches in
+    record { checked = lists .0; listed = lists .1; room = rooms .1 }
 
--- The table passes, the list passes for it, no row is dead, and the store has room.
+-- The table passes, the list passes for it, and the store has room.
 pub record SetupReady (setup : Setup) (size rows : ℕ) : Type 0 where
   pub table : Ready (setup .table) size rows
   pub listed : listPasses (setup .list) rows ≡ true
-  pub reached : rows ≤ lowestDead (setup .table) (setup .list) rows
 
 pub ready-gives : (setup : Setup) (size rows need : ℕ) → readyOf setup size ≡ passed rows need → SetupReady setup size rows
 ready-gives setup size rows need h =
     let parts = ready-parts setup size rows need h in
     let given : Passed (setup .table) rows need = passed-gives (setup .table) rows need (parts .checked) in
     let needed : need ≡ needOf (setup .table) = given .needed in
-    record {
-      table = record { passes = rw needed at given; room = omega (arith, parts .room) };
-      listed = parts .listed;
-      reached = parts .reached;
-    }
+    record { table = record { passes = rw needed at given; room = omega (arith, parts .room) }; listed = parts .listed }
 
 pub ready-room : (setup : Setup) (size rows need : ℕ) → readyOf setup size ≡ passed rows need → need ≤ size
 ready-room setup size rows need h = ready-parts setup size rows need h .room

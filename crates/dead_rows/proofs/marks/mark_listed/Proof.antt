@@ -12,13 +12,13 @@ use Rattle.dead_rows.proofs.marks.mark_listed.Tie as tie
 
 abbrev Inv-loop : tie.InvT-loop
 Inv-loop marks₀ list rows place₀ marks place =
-    (place ≤ length list) × (markedListed rows list marks₀ ≡ markedListed rows (drop place list) marks)
+    (markedListed rows list marks₀ ≡ markedListed rows (drop place list) marks) × (place ≤ length list)
 
 abbrev μ-loop : tie.MeasureT-loop
 μ-loop marks₀ list rows place₀ marks place = length list - place
 
 loop-holds : tie.Need-loop-holds Inv-loop μ-loop
-loop-holds c = (omega arith, refl)
+loop-holds c = (refl, omega arith)
 
 mul-mark-below : tie.Need-mul-mark-below Inv-loop μ-loop
 mul-mark-below c = omega arith
@@ -39,12 +39,12 @@ loop-again : tie.Need-loop-again Inv-loop μ-loop
 loop-again c =
     let d = c .before .before .before .before in
     let list = d .before .before .args .list .now in
-    (omega arith, d .loop .inv .1 ∙ rw (c .mark-below .ensures) (listed-next _ list (d .loop .marks) (d .loop .place) (omega arith)))
+    (d .loop .inv .0 ∙ rw (c .mark-below .ensures) (listed-next _ list (d .loop .marks) (d .loop .place) (omega arith)), omega arith)
 
 returns : tie.Need-returns Inv-loop μ-loop
 returns c =
     let list = c .before .before .before .args .list .now in
-    sym (c .before .loop .inv .1 ∙ listed-none _ list (c .before .loop .marks) (c .before .loop .place) (omega arith))
+    sym (c .before .loop .inv .0 ∙ listed-none _ list (c .before .loop .marks) (c .before .loop .place) (omega arith))
 
 pub mark-listed-spec : {M : Type 1} → statement M
 mark-listed-spec =
