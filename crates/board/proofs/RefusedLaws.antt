@@ -9,6 +9,7 @@ use native.Mathlib.Omega.{arith}
 use lib.ListN.{length}
 use Rattle.meaning.specs.Heartbeat.{heartbeat?}
 use Rattle.refusals.specs.Refusals.{Refused}
+use Rattle.times.specs.FrameTime.{TimeReply, at, notAt}
 use Rattle.rules.specs.Table as Table
 use Rattle.soundness.specs.declared.record.Record.{Record}
 use Rattle.soundness.specs.Record.{nothingSeen}
@@ -16,7 +17,7 @@ use Rattle.soundness.specs.Ready.{readyOf}
 use Rattle.monitor.specs.Start.{begin, startOf}
 use Rattle.monitor.specs.Event.{recordAfter}
 use Rattle.soundness.specs.Setup.{Setup}
-use Rattle.monitor.specs.Step.{Call, TimeReply, at, notAt, maskOf, verdict, clockMoved, momentOf, verdictOf, outcomeBy, refusalOf, stepOf}
+use Rattle.monitor.specs.Step.{Call, maskOf, verdict, clockMoved, momentOf, verdictOf, outcomeBy, refusalOf, stepOf}
 use Rattle.lines.specs.Read as Read
 use Rattle.codes.specs.Code.{verdictRoom, movedCode, codeOf, numberTold, IsRefusal}
 use Rattle.board.specs.Left.{startedOf, codedOf}

@@ -5,7 +5,7 @@ use mathlib.Core.Path.{_≡_}
 use Prim.Native.Nat.{ℕ}
 use lib.ListN.{getD}
 use Rattle.rules.specs.Table as Table
-use Rattle.monitor.specs.Step.{TimeReply, at, notAt, frameTimeOf}
+use Rattle.times.specs.FrameTime.{TimeReply, at, notAt, frameTimeOf}
 use Rattle.lines.specs.Read as Read
 use Rattle.lines.specs.Frame.{readFrame}
 use Rattle.codes.specs.Code.{refusalCode}

@@ -1,8 +1,8 @@
 // The time of a frame for C.
 
 use codes::code::refusal_code;
-use monitor::answer::Timed;
-use monitor::frame_time;
+use times::frame_time;
+use times::frame_time::Timed;
 ghost use Rattle.board.specs.Numbers.{TimeLeaves};
 
 // Refusal 6 where the clock is over the limit; or 0, and the time that the counter shows since the clock is written.

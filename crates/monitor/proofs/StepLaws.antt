@@ -19,6 +19,7 @@ use Rattle.soundness.specs.declared.record.Record.{Record}
 use Rattle.monitor.specs.declared.event.Arrival.{Arrival}
 use Rattle.monitor.specs.declared.answer.Answer.the-variants as Answer
 use Rattle.monitor.specs.declared.step.Told.{Told}
+use Rattle.times.specs.FrameTime.{timeShown}
 use Rattle.times.specs.Times.{timeLimit}
 use Rattle.row_list.specs.RowList.{listLimit}
 use Rattle.row_list.specs.Truths.{byteOf}
@@ -134,7 +135,7 @@ refused-alike setup store found m other (some earlier) fault = refl
 
 pub frame-at : (setup : Setup) (store : List ℕ) (found : Record) (counter mask : ℕ)
     → stepOf setup store found (frame counter mask)
-    ≡ stepOf setup store found (event (cond (leb (clockOf found) timeLimit) (frameTime (clockOf found) counter) 0) mask)
+    ≡ stepOf setup store found (event (timeShown (clockOf found) counter) mask)
 unfolding stepOf refusalOf
 frame-at setup store found counter mask = go (leb (clockOf found) timeLimit) refl
   where

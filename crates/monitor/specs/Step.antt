@@ -1,6 +1,6 @@
 -- One call, an event or a frame, a heartbeat or not: what it answers and what it leaves, for every input (document 01, "Refusal numbers" and "Lines from
 -- the board"; document 02, E2 and E4).
-use mathlib.Core.Bool.{Bool, true, false, cond}
+use mathlib.Core.Bool.{Bool, true, false}
 use mathlib.Core.List.{List}
 use mathlib.Core.Option.{Option, none, some}
 use mathlib.Core.Path.{_≡_}
@@ -15,8 +15,6 @@ use Rattle.soundness.specs.declared.record.Record.{Record}
 use Rattle.monitor.specs.declared.answer.Answer.{Answer}
 use Rattle.monitor.specs.declared.answer.Answer.the-variants as Answer
 use Rattle.monitor.specs.declared.answer.Judged.{Judged}
-use Rattle.monitor.specs.declared.answer.Timed.{Timed}
-use Rattle.monitor.specs.declared.answer.Timed.the-variants as Timed
 use Rattle.times.specs.Times.{timeLimit}
 use Rattle.row_list.specs.Verdict.{verdictNumber}
 use Rattle.soundness.specs.Record.{clockOf}
@@ -102,19 +100,3 @@ saidStep judged store = record { reply = said (judged .answer); left = judged .r
 -- What `event` and `frame` promise of the call that each makes: the answer, the record and every word of the store at exit say this.
 abbrev pub StepGives : Setup → (store : List ℕ) → Record → Call → Judged → (after : List ℕ) → Type 0
 StepGives setup store found call judged after = saidStep judged after ≡ stepOf setup store found call
-
--- "Asked for alone, with a last time over 281,474,976,710,655, the time is refused 6"; the last time is the clock.
-pub data TimeReply : Type 0 where
-  at : ℕ → TimeReply
-  notAt : Refused → TimeReply
-
-unfoldable pub frameTimeOf : ℕ → ℕ → TimeReply
-frameTimeOf clock counter = cond (leb clock timeLimit) (at (frameTime clock counter)) (notAt (refused Late))
-
-abbrev pub saidTime : Timed → TimeReply
-saidTime (Timed.At time) = at time
-saidTime (Timed.Refused fault) = notAt (refused fault)
-
--- What `frame_time` promises.
-abbrev pub TimeGives : (clock counter : ℕ) → Timed → Type 0
-TimeGives clock counter timed = saidTime timed ≡ frameTimeOf clock counter

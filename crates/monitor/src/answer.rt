@@ -28,9 +28,3 @@ pub struct Started {
     pub answer: StartAnswer,
     pub record: Record,
 }
-
-// The time of a frame, or refusal 6.
-pub enum Timed {
-    At(u64),
-    Refused(Refusal),
-}

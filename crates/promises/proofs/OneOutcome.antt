@@ -9,11 +9,9 @@ use Rattle.monitor.specs.declared.answer.Judged.{Judged}
 use Rattle.monitor.specs.declared.answer.StartAnswer.{StartAnswer}
 use Rattle.monitor.specs.declared.answer.StartAnswer.the-variants as StartAnswer
 use Rattle.monitor.specs.declared.answer.Started.{Started}
-use Rattle.monitor.specs.declared.answer.Timed.{Timed}
-use Rattle.monitor.specs.declared.answer.Timed.the-variants as Timed
 use Rattle.monitor.proofs.Outcomes.{answerOf, answer-back}
 use Rattle.monitor.specs.Start.{Beginning, startRefusal, startNeed, saidStart}
-use Rattle.monitor.specs.Step.{Outcome, saidStep, TimeReply, at, notAt, saidTime}
+use Rattle.monitor.specs.Step.{Outcome, saidStep}
 use Rattle.promises.specs.OneOutcome.{With, OneOutcome}
 
 abbrev judgedOf : Outcome → With Judged
@@ -36,18 +34,9 @@ startedOf b = record { result = record { answer = startAnswerOf (b .need) (b .re
 started-back : (o : With Started) → startedOf (saidStart (o .result) (o .store)) ≡ o
 started-back o = rw (start-answer-back (o .result .answer))
 
-abbrev timedOf : TimeReply → Timed
-timedOf (at time) = Timed.At time
-timedOf (notAt fault) = Timed.Refused (refusalOf fault)
-
-timed-back : (answer : Timed) → timedOf (saidTime answer) ≡ answer
-timed-back (Timed.At time) = refl
-timed-back (Timed.Refused fault) = ap Timed.Refused (refusal-back fault)
-
 pub one-outcome : OneOutcome
 one-outcome =
     record {
       start = λ setup store. one-said (λ (o : With Started). saidStart (o .result) (o .store)) startedOf started-back;
       call = λ setup store found c. one-said (λ (o : With Judged). saidStep (o .result) (o .store)) judgedOf judged-back;
-      frame-time = λ last counter. one-said saidTime timedOf timed-back;
     }

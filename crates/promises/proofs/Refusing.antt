@@ -17,13 +17,14 @@ use Rattle.refusals.specs.Refusals.{Refused, refused}
 use Rattle.rules.specs.Table.{CheckReply, passed, refusedBy, checkOf}
 use Rattle.refusals.specs.declared.refusal.Refusal.the-variants.{Earlier, Late, Unsound}
 use Rattle.soundness.specs.declared.record.Record.{Record}
+use Rattle.times.specs.FrameTime.{at, notAt, frameTimeOf}
 use Rattle.times.specs.Times.{timeLimit}
 use Rattle.soundness.specs.Record.{nothingSeen, clockOf}
 use Rattle.soundness.specs.Ready.{readyOf}
 use Rattle.monitor.specs.Event.{Moment, recordAfter}
 use Rattle.monitor.specs.Start.{begin, startOf}
 use Rattle.soundness.specs.Setup.{Setup}
-use Rattle.monitor.specs.Step.{Call, timeOf, refusalOf, momentOf, verdictOf, verdict, clockMoved, refusal, acceptedReply, outcomeBy, stepOf, at, notAt, frameTimeOf}
+use Rattle.monitor.specs.Step.{Call, timeOf, refusalOf, momentOf, verdictOf, verdict, clockMoved, refusal, acceptedReply, outcomeBy, stepOf}
 use Rattle.promises.specs.Conditions.{Ready, RecordRight}
 use Rattle.promises.specs.Refusing.{TableRefused, StartRefused, CallRefused, start, seven, six, five, RefusedExactly, RefusalChangesNothing}
 use Rattle.promises.proofs.Deciding.{exactly}

@@ -9,7 +9,7 @@ use Rattle.monitor.specs.declared.answer.Judged.{Judged}
 use Rattle.monitor.specs.declared.answer.Started.{Started}
 use Rattle.monitor.specs.Start.{StartGives}
 use Rattle.soundness.specs.Setup.{Setup}
-use Rattle.monitor.specs.Step.{Call, StepGives, TimeGives}
+use Rattle.monitor.specs.Step.{Call, StepGives}
 
 -- Any two that meet a condition are the same.
 abbrev pub AtMostOne : {A : Type 0} → (A → Type 0) → Type 0
@@ -21,8 +21,7 @@ pub record With (Result : Type 0) : Type 0 where
   pub store : List ℕ
 
 pub record OneOutcome : Type 0 where
-  -- `start`, an event or a frame, and the time of a frame.
+  -- `start`, and an event or a frame.
   pub start : (setup : Setup) (store : List ℕ) → AtMostOne (λ (o : With Started). StartGives setup store (o .result) (o .store))
   pub call : (setup : Setup) (store : List ℕ) (found : Record) (c : Call)
       → AtMostOne (λ (o : With Judged). StepGives setup store found c (o .result) (o .store))
-  pub frame-time : (last counter : ℕ) → AtMostOne (TimeGives last counter)

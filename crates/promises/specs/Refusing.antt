@@ -12,11 +12,12 @@ use Rattle.rules.specs.Table.{refusedBy, checkOf}
 use Rattle.refusals.specs.declared.refusal.Refusal.the-variants.{Length, Row, Limits, Store, Earlier, Late, Unsound, RowList, DeadRow}
 use Rattle.dead_rows.specs.Reached.{Reached}
 use Rattle.soundness.specs.declared.record.Record.{Record}
+use Rattle.times.specs.FrameTime.{notAt, frameTimeOf}
 use Rattle.times.specs.Times.{timeLimit}
 use Rattle.soundness.specs.Record.{nothingSeen, clockOf}
 use Rattle.monitor.specs.Start.{startOf}
 use Rattle.soundness.specs.Setup.{Setup}
-use Rattle.monitor.specs.Step.{Call, timeOf, refusal, stepOf, notAt, frameTimeOf}
+use Rattle.monitor.specs.Step.{Call, timeOf, refusal, stepOf}
 use Rattle.promises.specs.Conditions.{
   LengthRight,
   RowRight,

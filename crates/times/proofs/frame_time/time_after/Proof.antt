@@ -1,9 +1,9 @@
--- `monitor::frame_time::time_after` meets its contract: the wrapped difference is the remainder. Assumes nothing.
+-- `times::frame_time::time_after` meets its contract: the wrapped difference is the remainder. Assumes nothing.
 use native.Mathlib.Omega.{arith}
 use borrow.Author.Needs.{needs}
 use Rattle.meaning.specs.FrameTime.{frameTime}
-use Rattle.monitor.proofs.frame_time.time_after.Statement.{statement}
-use Rattle.monitor.proofs.frame_time.time_after.Tie as tie
+use Rattle.times.proofs.frame_time.time_after.Statement.{statement}
+use Rattle.times.proofs.frame_time.time_after.Tie as tie
 
 cast-low : tie.Need-cast-low
 cast-low c = search needs

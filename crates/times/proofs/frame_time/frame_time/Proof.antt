@@ -1,9 +1,9 @@
--- `monitor::frame_time::frame_time` meets its contract, by the one test. Assumes nothing.
+-- `times::frame_time::frame_time` meets its contract, by the one test. Assumes nothing.
 use borrow.Author.Needs.{needs}
 use borrow.Author.Tests.{lt-leb, le-leb}
-use Rattle.monitor.specs.Step.{frameTimeOf}
-use Rattle.monitor.proofs.frame_time.frame_time.Statement.{statement}
-use Rattle.monitor.proofs.frame_time.frame_time.Tie as tie
+use Rattle.times.specs.FrameTime.{frameTimeOf}
+use Rattle.times.proofs.frame_time.frame_time.Statement.{statement}
+use Rattle.times.proofs.frame_time.frame_time.Tie as tie
 
 returns : tie.Need-returns
 unfolding frameTimeOf

@@ -1,18 +1,21 @@
 // The time of a frame (document 01, "Lines from the board").
 
-use crate::answer::Timed;
+use crate::time::TIME_LIMIT;
 use refusals::refusal::Refusal;
-use times::time::TIME_LIMIT;
-ghost use mathlib.Core.Bool.{cond};
 ghost use mathlib.Core.Path.{_≡_};
 ghost use Prim.Native.Nat.{_≤_};
-ghost use lib.Dec.{leb};
 ghost use Rattle.meaning.specs.FrameTime.{frameTime};
+ghost use Rattle.times.specs.FrameTime.{TimeGives, timeShown};
 ghost use Rattle.times.specs.Times.{timeLimit};
-ghost use Rattle.monitor.specs.Step.{TimeGives};
 
 // The board's counter has sixteen bits.
 const TURN: u64 = 65_536;
+
+// The time of a frame, or refusal 6.
+pub enum Timed {
+    At(u64),
+    Refused(Refusal),
+}
 
 // The time of a frame: the clock, and the gap that the counter shows since. Refused 6 where the clock is over the limit. Only the clock is judged: the
 // time may pass the limit, and the event then refuses it.
@@ -25,9 +28,9 @@ pub fn frame_time(clock: u64, counter: u16) -> Timed
     Timed::At(time_after(clock, counter))
 }
 
-// The time at which a frame is judged; 0 where the clock is over the limit, since such a record is refused 7 at any time.
-pub(crate) fn time_shown(clock: u64, counter: u16) -> u64
-    ensures { λ r. ⌜ r ≡ cond (leb clock timeLimit) (frameTime clock counter) 0 ⌝ }
+// The time at which a frame is judged. Of a clock over the limit, with which nothing is accepted, the sum might wrap: 0 stands in its place.
+pub fn time_shown(clock: u64, counter: u16) -> u64
+    ensures { λ r. ⌜ r ≡ timeShown clock counter ⌝ }
 {
     if TIME_LIMIT < clock {
         return 0;

@@ -1,8 +1,8 @@
--- `monitor::frame_time::time_shown` meets its contract, by the one test. Assumes nothing.
+-- `times::frame_time::time_shown` meets its contract, by the one test. Assumes nothing.
 use borrow.Author.Needs.{needs}
 use borrow.Author.Tests.{lt-leb, le-leb}
-use Rattle.monitor.proofs.frame_time.time_shown.Statement.{statement}
-use Rattle.monitor.proofs.frame_time.time_shown.Tie as tie
+use Rattle.times.proofs.frame_time.time_shown.Statement.{statement}
+use Rattle.times.proofs.frame_time.time_shown.Tie as tie
 
 returns : tie.Need-returns
 returns c = rw (lt-leb _ _ (c .if1 .taken))
