@@ -29,15 +29,20 @@ extern "C" {
 #endif
 
 /* Raised whenever the record, a code or what a function takes changes; muk_version answers the library's. */
-#define MUK_VERSION 5
+#define MUK_VERSION 6
 
 /* The most rows that a table has. */
 #define MUK_ROWS 256
 /* The most row numbers that a list has. */
 #define MUK_LIST 16
 
-/* 1,312 bytes, whatever the table: entries past its rows are 0. `seen` and `truths` are 0 or 1; a record with any other byte there is not sound (7). Padding
- * between fields is nobody's: compare records field by field. */
+/* 2,336 bytes, whatever the table: entries past its rows are 0. `seen` and `truths` are 0 or 1; a record with any other byte there is not sound (7). Padding
+ * between fields is nobody's: compare records field by field.
+ *
+ * A row of kind 6, 7 or 8 owns a stretch of the store, in row order; one for p spans has p places of two words, a span's first and last millisecond. The
+ * row's spans stand rising from its first place round: the i-th, i from 0, at place (first place + i) modulo p. Free places hold 0 in both words. Each span
+ * that ends moves the first place one on, round, and no other span; a row that is left without spans begins again at place 0. A first place at or past p, or
+ * above 0 where the row has no span, is not sound (7). */
 typedef struct {
     uint8_t seen;              /* whether an event was seen; a heartbeat is none */
     uint64_t clock;            /* the time of the last accepted call, heartbeats too; 0 before any */
@@ -45,6 +50,7 @@ typedef struct {
     uint32_t rows;             /* the row count */
     uint8_t truths[MUK_ROWS];  /* each row's truth at the last event */
     uint32_t counts[MUK_ROWS]; /* each row's span count */
+    uint32_t firsts[MUK_ROWS]; /* each row's first place: where in its stretch its oldest span stands; 0 where it has none */
 } muk_record;
 
 /* The library is compiled for this layout; a compiler that has another is refused. */
@@ -54,13 +60,14 @@ typedef struct {
 #define MUK_HOLDS(fact) _Static_assert(fact, "the library has another layout of muk_record")
 #endif
 #ifdef MUK_HOLDS
-MUK_HOLDS(sizeof(muk_record) == 1312);
+MUK_HOLDS(sizeof(muk_record) == 2336);
 MUK_HOLDS(offsetof(muk_record, seen) == 0);
 MUK_HOLDS(offsetof(muk_record, clock) == 8);
 MUK_HOLDS(offsetof(muk_record, last) == 16);
 MUK_HOLDS(offsetof(muk_record, rows) == 24);
 MUK_HOLDS(offsetof(muk_record, truths) == 28);
 MUK_HOLDS(offsetof(muk_record, counts) == 284);
+MUK_HOLDS(offsetof(muk_record, firsts) == 1308);
 #undef MUK_HOLDS
 #endif
 

@@ -148,6 +148,9 @@ expect 0 "usage: table" tools/table --help
 expect 0 "usage: tools/footprint" tools/footprint --help
 expect 2 "there is no target 'cortex-m9'" tools/footprint cortex-m9
 expect 0 "usage: tools/event" tools/event --help
+for event in few most first drop none update; do
+    grep -q " $event: " <<<"$writes" || fail "tools/event --help does not tell of '$event'"
+done
 expect 2 "there is no option '-x'" tools/event -x
 expect 2 "there is no archive 'no-such.a'" tools/event no-such.a
 expect 2 "no-such cannot be read: No such file or directory" tools/table no-such

@@ -1,5 +1,6 @@
-/* Each function that include/muktrashi.h declares, with an answer that is known and with a refusal, what refused calls and heartbeats leave, and where each
- * field of the record lies. examples/board.c calls four of the functions, and tests/board/reference/ has declarations of its own. */
+/* Each function that include/muktrashi.h declares, with an answer that is known and with a refusal, what refused calls and heartbeats leave, where a stretch
+ * holds its spans, and where each field of the record lies. examples/board.c calls four of the functions, and tests/board/reference/ has declarations of its
+ * own. */
 #include <stdio.h>
 #include <string.h>
 
@@ -20,13 +21,14 @@ static void same(const char *what, uint64_t found, uint64_t wanted) {
 
 static void layout(void) {
     static const muk_record one;
-    SAME(sizeof one, 1312);
+    SAME(sizeof one, 2336);
     AT(seen, 0, 1);
     AT(clock, 8, 8);
     AT(last, 16, 8);
     AT(rows, 24, 4);
     AT(truths, 28, MUK_ROWS);
     AT(counts, 284, 4 * MUK_ROWS);
+    AT(firsts, 1308, 4 * MUK_ROWS);
 }
 
 /* Bit 0 exactly 2 ms ago. */
@@ -74,14 +76,15 @@ static void start(void) {
     for (row = 0; row < MUK_ROWS; row++) {
         SAME(record.truths[row], 0);
         SAME(record.counts[row], 0);
+        SAME(record.firsts[row], 0);
     }
     for (row = 0; row < NEED; row++)
         SAME(store[row], 0);
     SAME(store[NEED], PAST);
 }
 
-/* After the second of two events or frames with bit 0, 2 ms apart: the spans are `time` and `time` + 2. */
-static void second(const char *function, uint32_t code, uint64_t time) {
+/* After the second of two events or frames with bit 0, 2 ms apart: the spans are `time` and `time` + 2, the older at this place, the newer at the other. */
+static void second_at(int place, const char *function, uint32_t code, uint64_t time) {
     int before = failures, row;
     SAME(code, 1);
     SAME(muk_refusal(code), 0);
@@ -94,14 +97,20 @@ static void second(const char *function, uint32_t code, uint64_t time) {
     for (row = 0; row < MUK_ROWS; row++) {
         SAME(record.truths[row], row < 3 ? 1 : 0);
         SAME(record.counts[row], row == 2 ? 2 : 0);
+        SAME(record.firsts[row], row == 2 ? place : 0);
     }
-    SAME(store[0], time);
-    SAME(store[1], time);
-    SAME(store[2], time + 2);
-    SAME(store[3], time + 2);
+    SAME(store[2 * place], time);
+    SAME(store[2 * place + 1], time);
+    SAME(store[2 - 2 * place], time + 2);
+    SAME(store[3 - 2 * place], time + 2);
     SAME(store[NEED], PAST);
     if (failures > before)
         fprintf(stderr, "header.c: this was %s\n", function);
+}
+
+/* The same where the older is at the stretch's begin, as it is after a start. */
+static void second(const char *function, uint32_t code, uint64_t time) {
+    second_at(0, function, code, time);
 }
 
 static void same_records(const muk_record *found, const muk_record *wanted) {
@@ -113,6 +122,7 @@ static void same_records(const muk_record *found, const muk_record *wanted) {
     for (row = 0; row < MUK_ROWS; row++) {
         SAME(found->truths[row], wanted->truths[row]);
         SAME(found->counts[row], wanted->counts[row]);
+        SAME(found->firsts[row], wanted->firsts[row]);
     }
 }
 
@@ -134,7 +144,7 @@ static void refused(uint32_t number, uint32_t row, const uint32_t *table, uint64
 }
 
 static void codes(void) {
-    SAME(MUK_VERSION, 5);
+    SAME(MUK_VERSION, 6);
     SAME(muk_version(), MUK_VERSION);
     SAME(MUK_HEARTBEAT, UINT32_C(1) << 31);
     SAME(MUK_MOVED, UINT32_C(1) << 31);
@@ -339,21 +349,26 @@ static void dead_rows(void) {
     dead(MUK_ROWS - 1, most, 5 * MUK_ROWS, one_and_before, 2);
 }
 
-/* After a heartbeat: all but the clock and the spans of `row` is as it was before. There is one span, or none where its first is 0. */
-static void moved(uint32_t code, const muk_record *before, uint64_t clock, int row, uint64_t first, uint64_t last) {
+/* After a heartbeat: all but the clock and the spans of `row` is as it was before. There is one span, at this place, or none where its first is 0. */
+static void moved_at(int place, uint32_t code, const muk_record *before, uint64_t clock, int row, uint64_t first, uint64_t last) {
     int failed = failures;
     muk_record wanted = *before;
     wanted.clock = clock;
     wanted.counts[row] = first != 0;
+    wanted.firsts[row] = (uint32_t)place;
     SAME(code, MUK_MOVED);
     same_records(&record, &wanted);
-    SAME(store[0], first);
-    SAME(store[1], last);
-    SAME(store[2], 0);
-    SAME(store[3], 0);
+    SAME(store[2 * place], first);
+    SAME(store[2 * place + 1], last);
+    SAME(store[2 - 2 * place], 0);
+    SAME(store[3 - 2 * place], 0);
     SAME(store[NEED], PAST);
     if (failures > failed)
         fprintf(stderr, "header.c: this was a heartbeat at %llu\n", (unsigned long long)clock);
+}
+
+static void moved(uint32_t code, const muk_record *before, uint64_t clock, int row, uint64_t first, uint64_t last) {
+    moved_at(0, code, before, clock, row, first, last);
 }
 
 static void heartbeats(void) {
@@ -386,7 +401,7 @@ static void heartbeats(void) {
     SAME(muk_event(RULES, store, NEED, &record, 65538, MUK_HEARTBEAT), refusal(MUK_EARLIER, 0));
     second("muk_frame after heartbeats", muk_frame(RULES, store, NEED, &record, 3, MASK), 65539);
     before = record;
-    moved(muk_frame(RULES, store, NEED, &record, 4, MUK_HEARTBEAT), &before, 65540, 2, 65541, 65541);
+    moved_at(1, muk_frame(RULES, store, NEED, &record, 4, MUK_HEARTBEAT), &before, 65540, 2, 65541, 65541);
     moved(muk_frame(RULES, store, NEED, &record, 6, MUK_HEARTBEAT), &before, 65542, 2, 0, 0);
 
     /* A span that is clipped until it ends. */
@@ -403,6 +418,105 @@ static void heartbeats(void) {
     SAME(muk_event(previous, 10, second_row, 1, NULL, 0, &record, 10, MASK), 0);
     SAME(muk_event(previous, 10, second_row, 1, NULL, 0, &record, 11, MUK_HEARTBEAT), MUK_MOVED);
     SAME(muk_event(previous, 10, second_row, 1, NULL, 0, &record, 12, 0), 1);
+}
+
+/* A first place that is refused, and is put back. */
+static void bad_first(int row, uint32_t first, uint64_t time) {
+    uint32_t good = record.firsts[row];
+    record.firsts[row] = first;
+    refused(MUK_UNSOUND, 0, RULES, NEED, time, (uint16_t)time);
+    record.firsts[row] = good;
+}
+
+/* The stretch of two places as a ring. */
+static void rings(void) {
+    muk_record before;
+    int word;
+
+    /* With a touch every 2 ms a span ends with each, and the next is written where it was. */
+    start();
+    SAME(muk_event(RULES, store, NEED, &record, 10, MASK), 0);
+    second_at(0, "the second touch", muk_event(RULES, store, NEED, &record, 12, MASK), 12);
+    second_at(1, "the third", muk_event(RULES, store, NEED, &record, 14, MASK), 14);
+    second_at(0, "the fourth", muk_frame(RULES, store, NEED, &record, 16, MASK), 16);
+    second_at(1, "the fifth", muk_event(RULES, store, NEED, &record, 18, MASK), 18);
+
+    /* Full, from place 1 round: the other place would have the newer span first. Two is past the end, whatever it is modulo 2. */
+    bad_first(2, 0, 18);
+    bad_first(2, 2, 18);
+    bad_first(2, 3, 18);
+    bad_first(2, UINT32_MAX, 18);
+    /* A row without a stretch, and rows past the table's. */
+    bad_first(0, 1, 18);
+    bad_first(1, 1, 18);
+    bad_first(3, 1, 18);
+    bad_first(MUK_ROWS - 1, UINT32_C(1) << 31, 18);
+    /* A span that the count leaves out is no free place. */
+    record.counts[2] = 1;
+    refused(MUK_UNSOUND, 0, RULES, NEED, 18, 18);
+    record.counts[2] = 2;
+
+    /* One span at place 0, after one at place 1 has ended: place 1 is free, and holds zeros. */
+    before = record;
+    moved_at(0, muk_event(RULES, store, NEED, &record, 19, MUK_HEARTBEAT), &before, 19, 2, 20, 20);
+    for (word = 2; word < 4; word++) {
+        store[word] = 1;
+        refused(MUK_UNSOUND, 0, RULES, NEED, 19, 19);
+        store[word] = 0;
+    }
+    bad_first(2, 1, 19);
+
+    /* A touch takes place 1. Then place 0 is free, and once no span is left a touch takes place 0 again. */
+    second_at(0, "a touch beside one span", muk_event(RULES, store, NEED, &record, 20, MASK), 20);
+    before = record;
+    moved_at(1, muk_event(RULES, store, NEED, &record, 21, MUK_HEARTBEAT), &before, 21, 2, 22, 22);
+    bad_first(2, 0, 21);
+    store[1] = 1;
+    refused(MUK_UNSOUND, 0, RULES, NEED, 21, 21);
+    store[1] = 0;
+    moved_at(0, muk_event(RULES, store, NEED, &record, 23, MUK_HEARTBEAT), &before, 23, 2, 0, 0);
+    bad_first(2, 1, 23);
+
+    /* At place 1, ended in the same event as another is joined in. */
+    SAME(muk_event(RULES, store, NEED, &record, 30, MASK), 0);
+    second_at(0, "a touch after none was held", muk_event(RULES, store, NEED, &record, 32, MASK), 32);
+    before = record;
+    moved_at(1, muk_event(RULES, store, NEED, &record, 33, MUK_HEARTBEAT), &before, 33, 2, 34, 34);
+    SAME(muk_event(RULES, store, NEED, &record, 35, MASK), 0);
+    SAME(record.counts[2], 1);
+    SAME(record.firsts[2], 0);
+    SAME(store[0], 37);
+    SAME(store[1], 37);
+    SAME(store[2], 0);
+    SAME(store[3], 0);
+    SAME(store[NEED], PAST);
+}
+
+/* What is cleared, since x of "since" is false, begins again at place 0, in the same event too. */
+static void cleared(void) {
+    /* Bit 0 exactly 2 ms ago, and bit 1 at every event since. */
+    static const uint32_t since[] = {1, 0, 0, 0, 0, 1, 1, 0, 0, 0, 6, 1, 0, 2, 2};
+    int fed;
+    for (fed = 0; fed < 2; fed++) {
+        start();
+        SAME(muk_event(since, NUMBERS, list, 1, store, NEED, &record, 10, 3), 0);
+        SAME(muk_event(since, NUMBERS, list, 1, store, NEED, &record, 12, 3), 1);
+        SAME(muk_event(since, NUMBERS, list, 1, store, NEED, &record, 13, 2), 0);
+        SAME(record.counts[2], 1);
+        SAME(record.firsts[2], 1);
+        SAME(store[0], 0);
+        SAME(store[1], 0);
+        SAME(store[2], 14);
+        SAME(store[3], 14);
+        SAME(muk_event(since, NUMBERS, list, 1, store, NEED, &record, 13, (uint32_t)fed), 0);
+        SAME(record.counts[2], fed);
+        SAME(record.firsts[2], 0);
+        SAME(store[0], fed ? 15 : 0);
+        SAME(store[1], fed ? 15 : 0);
+        SAME(store[2], 0);
+        SAME(store[3], 0);
+        SAME(store[NEED], PAST);
+    }
 }
 
 static void times(void) {
@@ -452,6 +566,8 @@ int main(void) {
     lists();
     dead_rows();
     heartbeats();
+    rings();
+    cleared();
     times();
     lines();
     return failures > 0;

@@ -4,7 +4,7 @@ ghost use mathlib.Core.Path.{_≡_};
 ghost use Rattle.board.specs.Version.{version};
 
 // "Raised whenever the record or a code changes".
-const VERSION: u32 = 5;
+const VERSION: u32 = 6;
 
 // The library's version.
 #[no_mangle]

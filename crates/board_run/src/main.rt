@@ -134,10 +134,11 @@ fn code_told(code: u32) {
     }
 }
 
-// Seen, clock, last and rows; the truth and the span count of the row that is judged.
+// Seen, clock, last and rows; the truth, the span count and the first place of the row that is judged.
 fn record_told(kept: Record) {
     let truths = kept.truths;
     let counts = kept.counts;
+    let firsts = kept.firsts;
     say(b"\n  record:");
     byte(kept.seen);
     number(kept.clock);
@@ -145,6 +146,7 @@ fn record_told(kept: Record) {
     count(kept.rows);
     byte(truths[2]);
     count(counts[2]);
+    count(firsts[2]);
 }
 
 fn words_told(store: &[u64]) {

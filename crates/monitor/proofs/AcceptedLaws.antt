@@ -4,7 +4,7 @@ use mathlib.Core.Bool.{Bool, true, false, cond, not}
 use mathlib.Core.List.{List}
 use mathlib.Core.Option.{Option, none}
 use mathlib.Core.Path.{_≡_, refl, sym, subst}
-use Prim.Native.Nat.{ℕ, _+_, _*_, _≤_, _<_, max}
+use Prim.Native.Nat.{ℕ, _+_, _≤_, _<_, max}
 use native.Mathlib.Omega.{arith}
 use lib.Dec.{T, leb}
 use lib.ListN.{length, getD}
@@ -14,21 +14,23 @@ use Rattle.meaning.specs.Heartbeat.{heartbeat?}
 use Rattle.meaning.specs.Spans.{Rising, reachedFrom, update}
 use Rattle.meaning.specs.Sound.{lengthOf}
 use Rattle.meaning.specs.Figure.{figure}
-use Rattle.spans.specs.Layout.{spanWords}
 use Rattle.kinds.specs.Kinds.{Rule, plain, stretch}
 use Rattle.kinds.specs.declared.stretch.Stretch.{Stretch}
 use Rattle.rules.specs.Rows.{rowsOf, numbersAt, ruleOf, keptBy, fedBy}
-use Rattle.rules.specs.Stretches.{spansSaid, width, offset}
+use Rattle.rules.specs.Stretches.{spansSaid, spansOf, width, offset}
 use Rattle.refusals.specs.Refusals.{Refused, _orElse_}
 use Rattle.rules.specs.declared.numbers.Numbers.{Numbers}
 use Rattle.refusals.specs.declared.refusal.Refusal.{Refusal}
 use Rattle.refusals.specs.declared.refusal.Refusal.the-variants.{Earlier, Late, Unsound}
 use Rattle.meaning.proofs.Truths.{and-right}
 use Rattle.rules.proofs.TableLaws.{or-none}
-use Rattle.rules.proofs.PassedLaws.{InRange, range-order, limit-fits}
+use Rattle.rules.proofs.PassedLaws.{InRange, range-order, limit-fits, width-most}
 use Rattle.rules.proofs.StretchesLaws.{stretch-before}
-use Rattle.spans.specs.Layout.{Packed}
-use Rattle.spans.proofs.LayoutLaws.{Storable}
+use Rattle.spans.specs.Layout.{placesOf, Packed}
+use Rattle.spans.specs.Stretch.{Inside}
+use Rattle.spans.proofs.RoundLaws.{places-double}
+use Rattle.spans.proofs.LayoutLaws.{Storable, laid-inside}
+use Rattle.spans.proofs.UpdateLaws.{kept-grows, first-fits}
 use Rattle.sound_spans.proofs.SoundTold.{SoundStretch, stretch-told}
 use Rattle.sound_spans.proofs.StretchKept.{UpdateLeaves, sound-packed, sound-ready}
 use Rattle.soundness.specs.declared.record.Record.{Record}
@@ -38,12 +40,12 @@ use Rattle.row_list.specs.Truths.{truthAt}
 use Rattle.soundness.specs.Record.{wasSeen, clockOf, eventTime, heldAt, stretchAt, spansFound}
 use Rattle.soundness.specs.Soundness.{soundEntry?, soundLimits?, soundRow?, sound?}
 use Rattle.soundness.specs.Ready.{readyOf, refusalIn}
-use Rattle.monitor.specs.Event.{Moment, spansBy, spansAfter, truthsAfter, spansJudged, spansClipped, spansNow}
+use Rattle.monitor.specs.Event.{Moment, spansBy, spansLeft, spansAfter, firstAfter, truthsAfter, ringJudged, ringClipped, ringNow}
 use Rattle.monitor.specs.Core.{RowsLaid}
 use Rattle.soundness.specs.Setup.{Setup}
 use Rattle.monitor.specs.Step.{Call, timeOf, unless, refusalOf}
 use Rattle.soundness.proofs.ReadyLaws.{Ready, ready-none}
-use Rattle.monitor.proofs.EventLaws.{length-stretch, Room}
+use Rattle.monitor.proofs.EventLaws.{length-stretch, RingFits, Room}
 use Rattle.monitor.proofs.ClippingLaws.{clipped-fits}
 use Rattle.spans.proofs.ReachedLaws.{reach-storable}
 use Rattle.soundness.proofs.SoundnessLaws.{every-at, sound-parts}
@@ -133,7 +135,7 @@ module _ (table store : List ℕ) (found : Record) (time : ℕ) (met : Accepted 
 
     -- An update of the row at the time: what it leaves rises from there, and has room.
     update-ready : (keep feed : Bool)
-        → UpdateLeaves time (figure (numbers .a) (endOf (numbers .b))) (length (stretchAt table store row))
+        → UpdateLeaves time (figure (numbers .a) (endOf (numbers .b)))
         (update keep feed time (reachedFrom time (numbers .a) (endOf (numbers .b))) (spansFound table store found row))
     update-ready keep feed =
         sound-ready (clockOf found) time (eventTime found) (numbers .a) latestFirst (endOf (numbers .b)) (stretchAt table store row)
@@ -147,7 +149,7 @@ module _ (m : Moment) (met : Accepted (m .table) (m .store) (m .found) (m .time)
 
   -- Of a row with a stretch.
   by-columns : (columns : Stretch)
-      → UpdateLeaves (m .time) (figure (N .a) (endOf (N .b))) (length (stretchAt (m .table) (m .store) row))
+      → UpdateLeaves (m .time) (figure (N .a) (endOf (N .b)))
       (spansBy (m .time) truths (spansFound (m .table) (m .store) (m .found) row) N (stretch columns))
   by-columns columns =
       update-ready (m .table) (m .store) (m .found) (m .time) met row lower (keptBy true (truthAt truths) N (columns .keep))
@@ -162,30 +164,61 @@ module _ (m : Moment) (met : Accepted (m .table) (m .store) (m .found) (m .time)
   unfolding spansAfter
   row-rises = rises-by (ruleOf N)
 
-  enough-by : (rule : Rule) → length (stretchAt (m .table) (m .store) row) ≡ spanWords * spansSaid rule N
-      → spanWords * length (spansBy (m .time) truths (spansFound (m .table) (m .store) (m .found) row) N rule) ≤ spanWords * spansSaid rule N
-  enough-by (plain says) size = omega arith
-  enough-by (stretch columns) size = rw (← size) (by-columns columns .room (omega arith))
+  enough-by : (rule : Rule) → length (spansBy (m .time) truths (spansFound (m .table) (m .store) (m .found) row) N rule) ≤ spansSaid rule N
+  enough-by (plain says) = omega arith
+  enough-by (stretch columns) = by-columns columns .room
 
-  pub row-enough : spanWords * length (spansAfter m row truths) ≤ width N
+  row-enough : length (spansAfter m row truths) ≤ spansOf N
   unfolding spansAfter
-  row-enough = enough-by (ruleOf N) (length-stretch (m .table) (m .store) row (row-inside (m .table) (m .store) (m .found) (m .time) met row lower))
+  row-enough = enough-by (ruleOf N)
+
+  -- Its first place then is right for them.
+  held-inside : Inside (stretchAt (m .table) (m .store) row) (heldAt (m .found) row)
+  held-inside = laid-inside (row-laid (m .table) (m .store) (m .found) (m .time) met row lower)
+
+  places : placesOf (length (stretchAt (m .table) (m .store) row)) ≡ spansOf N
+  places =
+      rw (
+        length-stretch (m .table) (m .store) row (row-inside (m .table) (m .store) (m .found) (m .time) met row lower),
+        places-double,
+      )
+      refl
+
+  left-by : (rule : Rule)
+      → length (spansLeft (m .time) truths (spansFound (m .table) (m .store) (m .found) row) N rule)
+      ≤ length (spansBy (m .time) truths (spansFound (m .table) (m .store) (m .found) row) N rule)
+  left-by (plain says) = omega arith
+  left-by (stretch columns) =
+      kept-grows (keptBy true (truthAt truths) N (columns .keep)) (fedBy not (truthAt truths) N columns) (m .time)
+      (reachedFrom (m .time) (N .a) (endOf (N .b))) (spansFound (m .table) (m .store) (m .found) row)
+
+  pub row-fits : RingFits N (record { first = firstAfter m row truths; spans = spansAfter m row truths })
+  unfolding firstAfter spansAfter
+  row-fits =
+      record {
+        few = row-enough;
+        placed =
+            first-fits (spansOf N) (heldAt (m .found) row) _ _ (omega (arith, held-inside .0, places)) (omega (arith, held-inside .1, places))
+            (left-by (ruleOf N)) row-enough;
+      }
 
 -- The rows of the table can be clipped.
-pub rows-laid : (table store : List ℕ) (found : Record) (time : ℕ) → Accepted table store found time → RowsLaid table store (found .counts) (rowsOf table)
+pub rows-laid : (table store : List ℕ) (found : Record) (time : ℕ) → Accepted table store found time → RowsLaid table store (found .counts) (found .firsts) (rowsOf table)
 rows-laid table store found time met =
     record {
       few = met .ready .passes .few-rows;
       inside = row-inside table store found time met;
       laid = row-laid table store found time met;
+      counted = λ row lower.
+          omega (arith, width-most (numbersAt table row) (met .ready .passes .good row lower .limits));
     }
 
 -- So the spans of each row after the call have room, be it an event or a heartbeat.
-pub now-enough : (m : Moment) → Accepted (m .table) (m .store) (m .found) (m .time) → Room (m .table) (spansNow m) (rowsOf (m .table))
+pub now-enough : (m : Moment) → Accepted (m .table) (m .store) (m .found) (m .time) → Room (m .table) (ringNow m) (rowsOf (m .table))
 now-enough m met = go (heartbeat? (m .mask))
   where
     go : (heartbeat : Bool)
-        → Room (m .table) (cond heartbeat (spansClipped (m .table) (m .store) (m .found .counts) (m .time)) (spansJudged m)) (rowsOf (m .table))
+        → Room (m .table) (cond heartbeat (ringClipped (m .table) (m .store) (m .found .counts) (m .found .firsts) (m .time)) (ringJudged m)) (rowsOf (m .table))
     go true row lower =
-        clipped-fits (m .table) (m .store) (m .found .counts) (rowsOf (m .table)) (m .time) row (rows-laid (m .table) (m .store) (m .found) (m .time) met) lower
-    go false row lower = row-enough m met row lower (truthsAfter m row)
+        clipped-fits (m .table) (m .store) (m .found .counts) (m .found .firsts) (rowsOf (m .table)) (m .time) row (rows-laid (m .table) (m .store) (m .found) (m .time) met) lower
+    go false row lower = row-fits m met row lower (truthsAfter m row)

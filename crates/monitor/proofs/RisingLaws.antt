@@ -1,4 +1,4 @@
--- The truths and the span counts after the rows below n: each row's is set once, at its own turn, and is as found until then.
+-- The truths, the span counts and the first places after the rows below n: each row's is set once, at its own turn, and is as found until then.
 use mathlib.Core.List.{List}
 use mathlib.Core.Logic.{⊎-elim}
 use mathlib.Core.Path.{_≡_, refl}
@@ -8,8 +8,7 @@ use native.Mathlib.Omega.{arith}
 use lib.ListN.{length, getD, set, length-set}
 use lib.Seq.{getD-set-same, getD-set-other}
 use Rattle.row_list.specs.Truths.{byteOf, truthAt}
-use Rattle.meaning.specs.Spans.{Span}
-use Rattle.monitor.specs.Event.{Moment, truthOf, truthsAfter, countsWith}
+use Rattle.monitor.specs.Event.{Moment, truthOf, truthsAfter, entriesWith}
 use Rattle.row_list.proofs.TruthsLaws.{byte-back}
 
 -- Lists that are made by setting the entry of each row in turn.
@@ -60,20 +59,20 @@ module _ (m : Moment) where
   unfolding truthsAfter
   truth-left n r later = rising-later (truthsAfter m) byte truths-next 0 n r later
 
--- The counts.
-module _ (spans : ℕ → List Span) (counts : List ℕ) where
-  counts-next : (n : ℕ) → countsWith spans counts (suc n) ≡ set (countsWith spans counts n) n (length (spans n))
-  unfolding countsWith
-  counts-next n = refl
+-- The entries that each row has of its ring: its span count, and its first place.
+module _ (entry : ℕ → ℕ) (found : List ℕ) where
+  entries-next : (n : ℕ) → entriesWith entry found (suc n) ≡ set (entriesWith entry found n) n (entry n)
+  unfolding entriesWith
+  entries-next n = refl
 
-  pub length-counts : (n : ℕ) → length (countsWith spans counts n) ≡ length counts
-  unfolding countsWith
-  length-counts n = rising-length (countsWith spans counts) (λ r. length (spans r)) counts-next n
+  pub length-entries : (n : ℕ) → length (entriesWith entry found n) ≡ length found
+  unfolding entriesWith
+  length-entries n = rising-length (entriesWith entry found) entry entries-next n
 
-  pub count-set : (n r : ℕ) → r < n → r < length counts → getD (countsWith spans counts n) r 0 ≡ length (spans r)
-  unfolding countsWith
-  count-set n r done inside = rising-at (countsWith spans counts) (λ r. length (spans r)) counts-next 0 n r done inside
+  pub entry-set : (n r : ℕ) → r < n → r < length found → getD (entriesWith entry found n) r 0 ≡ entry r
+  unfolding entriesWith
+  entry-set n r done inside = rising-at (entriesWith entry found) entry entries-next 0 n r done inside
 
-  pub count-left : (n r : ℕ) → n ≤ r → getD (countsWith spans counts n) r 0 ≡ getD counts r 0
-  unfolding countsWith
-  count-left n r later = rising-later (countsWith spans counts) (λ r. length (spans r)) counts-next 0 n r later
+  pub entry-left : (n r : ℕ) → n ≤ r → getD (entriesWith entry found n) r 0 ≡ getD found r 0
+  unfolding entriesWith
+  entry-left n r later = rising-later (entriesWith entry found) entry entries-next 0 n r later

@@ -2,7 +2,7 @@
 use mathlib.Core.Bool.{Bool, true, false, not}
 use mathlib.Core.List.{List, []}
 use mathlib.Core.Path.{_≡_, refl, sym, ap, subst, _∙_}
-use Prim.Native.Nat.{ℕ, _+_, _-_, _^_, _≤_, _<_}
+use Prim.Native.Nat.{ℕ, _+_, _*_, _-_, _^_, _≤_, _<_}
 use native.Mathlib.Nat.{add-zero}
 use native.Mathlib.Omega.{arith}
 use lib.ListN.{length, take-append-drop}
@@ -17,17 +17,22 @@ use Rattle.rules.specs.declared.numbers.Numbers.{Numbers}
 use Rattle.meaning.proofs.Truths.{no-truth}
 use Rattle.spans.specs.declared.stretch.Held.{Held}
 use Rattle.spans.specs.declared.stretch.Updated.{Updated}
-use Rattle.spans.specs.Layout.{wordsOf, packed}
-use Rattle.spans.specs.Stretch.{covered}
+use Rattle.spans.specs.Layout.{laidFrom, wordsOf, packed}
+use Rattle.spans.specs.Stretch.{covered, firstLeft}
+use Rattle.spans.proofs.RoundLaws.{places-double}
 use Rattle.monitor.specs.declared.event.Arrival.{Arrival}
 use Rattle.row_list.specs.Truths.{truthAt}
-use Rattle.monitor.specs.Event.{spansBy, truthBy}
-use Rattle.monitor.specs.Core.{updateIn, UpdateReady, UpdatedIn, spansAfterIn, RowReady, RowJudged}
+use Rattle.monitor.specs.Event.{spansBy, spansLeft, truthBy}
+use Rattle.monitor.specs.Core.{updateIn, UpdateReady, UpdatedIn, spansAfterIn, firstAfterIn, RowReady, RowJudged}
 
 -- A row without a stretch holds no spans, and its stretch has no words.
 no-spans : (time : ℕ) (truths : List ℕ) (S : List Span) (n : Numbers) (rule : Rule) → hasStretch rule ≡ false → spansBy time truths S n rule ≡ []
 no-spans time truths S n (plain says) h = refl
 no-spans time truths S n (stretch columns) h = absurd (no-truth (sym h))
+
+none-left : (time : ℕ) (truths : List ℕ) (S : List Span) (n : Numbers) (rule : Rule) → hasStretch rule ≡ false → spansLeft time truths S n rule ≡ []
+none-left time truths S n (plain says) h = refl
+none-left time truths S n (stretch columns) h = absurd (no-truth (sym h))
 
 no-words : (n : Numbers) (rule : Rule) → hasStretch rule ≡ false → spansSaid rule n ≡ 0
 no-words n (plain says) h = refl
@@ -82,7 +87,7 @@ module _
             inside = ends-within;
             laid = rw size (ready .laid);
             rises = rw stretch-spans (ready .rises);
-            room = rw (stretch-spans, all, size) (ready .enough);
+            room = rw (stretch-spans, all, size, places-double) (ready .enough);
           }
 
       truth-stretch : (found : List ℕ) (S : List Span) → truthBy e found truths S n (ruleOf n) ≡ taken not (columns .inside) (covered (e .time) S)
@@ -99,14 +104,23 @@ module _
           pub stretch-count : judged .held .count < 2 ^ 32
           stretch-count = omega (arith, count-is, ready .enough, ready .few)
 
+          first-is : judged .held .first ≡ firstAfterIn store from n held e truths
+          first-is =
+              let all : from + width n - from ≡ 2 * spansOf n = omega arith in
+              done .placed ∙ rw (size, all, places-double, rule, names .kept)
+
+          pub stretch-first : judged .held .first < 2 ^ 32
+          stretch-first = omega (arith, first-is, ready .placed, ready .few)
+
           pub stretch-judged : {found : List ℕ} {truth : Bool}
               → truth ≡ taken not (columns .inside) (judged .covered)
-              → RowJudged store from n held e found truths after (record { truth = truth; count = judged .held .count; end = from + words })
+              → RowJudged store from n held e found truths after (record { truth = truth; count = judged .held .count; first = judged .held .first; end = from + words })
           stretch-judged {found} told =
               let all : from + words - from ≡ words = omega arith in
               record {
                 truth = rw (told, done .told, stretch-spans) (sym (truth-stretch found (spansAfterIn store from n held e truths)));
                 count = count-is;
+                first = first-is;
                 end = rw size;
                 written = done .written ∙ rw (stretch-spans, all, size);
               }
@@ -119,12 +133,13 @@ module _
       narrow = no-words n (ruleOf n) bare
 
       pub plain-judged : {truth : Bool} {found : List ℕ} → truth ≡ truthBy e found truths (spansAfterIn store from n held e truths) n (ruleOf n)
-          → RowJudged store from n held e found truths store (record { truth = truth; count = 0; end = from + words })
-      unfolding packed wordsOf
+          → RowJudged store from n held e found truths store (record { truth = truth; count = 0; first = 0; end = from + words })
+      unfolding packed wordsOf firstLeft laidFrom
       plain-judged told =
           record {
             truth = told;
             count = rw none;
+            first = rw (none-left (e .time) truths _ n (ruleOf n) bare) refl;
             end = rw size;
             written = rw (none, narrow, add-zero) (sym (take-append-drop from store));
           }

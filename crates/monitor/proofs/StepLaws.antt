@@ -44,7 +44,7 @@ use Rattle.monitor.specs.Step.{
   stepOf,
   said,
 }
-use Rattle.monitor.specs.Event.{Moment, spansClipped, recordAfter}
+use Rattle.monitor.specs.Event.{Moment, ringClipped, recordAfter}
 use Rattle.monitor.specs.Core.{moment, recordMet, SpansLeft, AfterRows, LeftIn, refusedTold}
 use Rattle.soundness.specs.Fit.{withSound, fitOf}
 use Rattle.row_list.proofs.VerdictLaws.{verdict-below}
@@ -52,12 +52,21 @@ use Rattle.soundness.proofs.ReadyLaws.{ready-gives}
 use Rattle.soundness.proofs.SoundnessLaws.{sound-parts}
 
 -- A refused call leaves the times, the arrays and the store as they were.
-pub left-refused : (setup : Setup) (store : List ℕ) (e : Arrival) (rows : ℕ) (truths counts : List ℕ) (call : Call) (fault : Refusal)
-    → refusalOf setup store (recordMet e rows truths counts) call ≡ some (refused fault)
-    → LeftIn (stepOf setup store (recordMet e rows truths counts) call) (refusedTold fault e) truths counts store
+pub left-refused : (setup : Setup) (store : List ℕ) (e : Arrival) (rows : ℕ) (truths counts firsts : List ℕ) (call : Call) (fault : Refusal)
+    → refusalOf setup store (recordMet e rows truths counts firsts) call ≡ some (refused fault)
+    → LeftIn (stepOf setup store (recordMet e rows truths counts firsts) call) (refusedTold fault e) truths counts firsts store
 unfolding stepOf
-left-refused setup store e rows truths counts call fault h =
-    record { replied = rw h; seen-is = rw h; clock-is = rw h; last-is = rw h; truths-are = rw h; counts-are = rw h; store-is = rw h }
+left-refused setup store e rows truths counts firsts call fault h =
+    record {
+      replied = rw h;
+      seen-is = rw h;
+      clock-is = rw h;
+      last-is = rw h;
+      truths-are = rw h;
+      counts-are = rw h;
+      firsts-are = rw h;
+      store-is = rw h;
+    }
 
 -- 1 to 3, 10, 11, 4 and 7.
 fit-refused-by : (sound : Bool) (ready : CheckReply) (rest : Option Refused) (fault : Refused) → refusedBy fault ≡ withSound sound ready
@@ -147,18 +156,19 @@ frame-at setup store found counter mask = go (leb (clockOf found) timeLimit) ref
         (refused-alike setup store found _ _ (refusalIn (readyOf setup (length store))) (refused Unsound))
 
 -- An accepted event leaves what the rows left, and its verdict has the truths of the listed ones.
-pub left-accepted : (table list store : List ℕ) (found : Record) (time mask rows : ℕ) (truths counts after : List ℕ)
+pub left-accepted : (table list store : List ℕ) (found : Record) (time mask rows : ℕ) (truths counts firsts after : List ℕ)
     → refusalOf (setupOf table list) store found (event time mask) ≡ none
     → rows ≡ rowsOf table
     → heartbeat? mask ≡ false
-    → AfterRows (moment table store found time mask) rows truths counts after
+    → AfterRows (moment table store found time mask) rows truths counts firsts after
     → LeftIn (stepOf (setupOf table list) store found (event time mask))
     (record { answer = Answer.Verdict (verdictNumber truths list); seen = byteOf true; clock = time; last = time })
     truths
     counts
+    firsts
     after
 unfolding stepOf recordAfter
-left-accepted table list store found time mask rows truths counts after h counted no-beat done =
+left-accepted table list store found time mask rows truths counts firsts after h counted no-beat done =
     record {
       replied = rw (h, no-beat, done .truths-are, counted);
       seen-is = rw (h, no-beat);
@@ -166,22 +176,24 @@ left-accepted table list store found time mask rows truths counts after h counte
       last-is = rw (h, no-beat);
       truths-are = rw (h, no-beat, done .truths-are, counted);
       counts-are = rw (h, no-beat, done .left .counts-are, counted);
+      firsts-are = rw (h, no-beat, done .left .firsts-are, counted);
       store-is = rw (h, no-beat, done .left .store-is, counted);
     }
 
 -- An accepted heartbeat leaves the truths, and the spans clipped at its time.
-pub left-moved : (table list store : List ℕ) (found : Record) (time mask rows : ℕ) (counts after : List ℕ)
+pub left-moved : (table list store : List ℕ) (found : Record) (time mask rows : ℕ) (counts firsts after : List ℕ)
     → refusalOf (setupOf table list) store found (event time mask) ≡ none
     → rows ≡ rowsOf table
     → heartbeat? mask ≡ true
-    → SpansLeft table store (found .counts) (spansClipped table store (found .counts) time) rows counts after
+    → SpansLeft table store (found .counts) (found .firsts) (ringClipped table store (found .counts) (found .firsts) time) rows counts firsts after
     → LeftIn (stepOf (setupOf table list) store found (event time mask))
     (record { answer = Answer.ClockMoved; seen = found .seen; clock = time; last = eventTime found })
     (found .truths)
     counts
+    firsts
     after
 unfolding stepOf recordAfter
-left-moved table list store found time mask rows counts after h counted beat done =
+left-moved table list store found time mask rows counts firsts after h counted beat done =
     record {
       replied = rw (h, beat);
       seen-is = rw (h, beat);
@@ -189,6 +201,7 @@ left-moved table list store found time mask rows counts after h counted beat don
       last-is = rw (h, beat);
       truths-are = rw (h, beat);
       counts-are = rw (h, beat, done .counts-are, counted);
+      firsts-are = rw (h, beat, done .firsts-are, counted);
       store-is = rw (h, beat, done .store-is, counted);
     }
 
@@ -201,20 +214,20 @@ rows-stay setup store found call = go (refusalOf setup store found call)
     go none = refl
     go (some fault) = refl
 
-abbrev together : Told → (rows : ℕ) (truths counts after : List ℕ) → Outcome
-together told rows truths counts after =
-    record { reply = said (told .answer); left = recordOf (told .seen) (told .clock) (told .last) rows truths counts; store = after }
+abbrev together : Told → (rows : ℕ) (truths counts firsts after : List ℕ) → Outcome
+together told rows truths counts firsts after =
+    record { reply = said (told .answer); left = recordOf (told .seen) (told .clock) (told .last) rows truths counts firsts; store = after }
 
-put-together : (o : Outcome) (told : Told) (rows : ℕ) (truths counts after : List ℕ) → LeftIn o told truths counts after → rows ≡ o .left .rows
-    → together told rows truths counts after ≡ o
-put-together o told rows truths counts after left rows-are =
-    rw (left .replied, left .seen-is, left .clock-is, left .last-is, rows-are, left .truths-are, left .counts-are, left .store-is)
+put-together : (o : Outcome) (told : Told) (rows : ℕ) (truths counts firsts after : List ℕ) → LeftIn o told truths counts firsts after → rows ≡ o .left .rows
+    → together told rows truths counts firsts after ≡ o
+put-together o told rows truths counts firsts after left rows-are =
+    rw (left .replied, left .seen-is, left .clock-is, left .last-is, rows-are, left .truths-are, left .counts-are, left .firsts-are, left .store-is)
 
-pub step-given : (setup : Setup) (store : List ℕ) (found : Record) (call : Call) (told : Told) (truths counts after : List ℕ)
-    → LeftIn (stepOf setup store found call) told truths counts after
-    → together told (found .rows) truths counts after ≡ stepOf setup store found call
-step-given setup store found call told truths counts after left =
-    put-together (stepOf setup store found call) told (found .rows) truths counts after left (rows-stay setup store found call)
+pub step-given : (setup : Setup) (store : List ℕ) (found : Record) (call : Call) (told : Told) (truths counts firsts after : List ℕ)
+    → LeftIn (stepOf setup store found call) told truths counts firsts after
+    → together told (found .rows) truths counts firsts after ≡ stepOf setup store found call
+step-given setup store found call told truths counts firsts after left =
+    put-together (stepOf setup store found call) told (found .rows) truths counts firsts after left (rows-stay setup store found call)
 
 -- The verdict of a call fits sixteen bits.
 accepted-fits : (number made : ℕ) (beat : Bool) → made < 2 ^ listLimit → cond beat clockMoved (verdict made) ≡ verdict number → number < 2 ^ listLimit

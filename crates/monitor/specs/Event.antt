@@ -11,14 +11,14 @@ use Rattle.meaning.specs.Spans.{Span, reachedFrom, clip, update}
 use Rattle.kinds.specs.Kinds.{Rule, plain, stretch}
 use Rattle.kinds.specs.declared.plain.Plain.the-variants as Plain
 use Rattle.rules.specs.Rows.{rowsOf, numbersAt, ruleOf, keptBy, taken, fedBy}
-use Rattle.rules.specs.Stretches.{width, offset}
+use Rattle.rules.specs.Stretches.{spansOf, width, offset}
 use Rattle.rules.specs.declared.numbers.Numbers.{Numbers}
-use Rattle.spans.specs.Layout.{packed, spansHeld}
-use Rattle.spans.specs.Stretch.{covered}
+use Rattle.spans.specs.Layout.{spansHeld, ringOf}
+use Rattle.spans.specs.Stretch.{covered, keptOf, firstLeft}
 use Rattle.soundness.specs.declared.record.Record.{Record}
 use Rattle.monitor.specs.declared.event.Arrival.{Arrival}
 use Rattle.row_list.specs.Truths.{byteOf, isTrue, truthAt}
-use Rattle.soundness.specs.Record.{clockOf, eventTime, heldIn, stretchAt, spansFound}
+use Rattle.soundness.specs.Record.{clockOf, eventTime, heldIn, heldAt, stretchAt, spansFound}
 
 -- An event or a heartbeat, and what it meets: the table, the store and the record as they were found.
 pub record Moment : Type 0 where
@@ -39,6 +39,16 @@ spansBy time truths before row (plain says) = []
 spansBy time truths before row (stretch columns) =
     update (keptBy true (truthAt truths) row (columns .keep)) (fedBy not (truthAt truths) row columns) time
     (reachedFrom time (row .a) (endOf (row .b))) before
+
+-- What is left of the spans found before anything is joined in; the first place goes on, round, by as many as were dropped.
+abbrev pub spansLeft : (time : ℕ) (truths : List ℕ) → List Span → Numbers → Rule → List Span
+spansLeft time truths before row (plain says) = []
+spansLeft time truths before row (stretch columns) = keptOf (keptBy true (truthAt truths) row (columns .keep)) time before
+
+unfoldable pub firstAfter : Moment → ℕ → List ℕ → ℕ
+firstAfter m row truths =
+    firstLeft (spansOf (numbersAt (m .table) row)) (heldAt (m .found) row)
+    (length (spansLeft (m .time) truths (spansFound (m .table) (m .store) (m .found) row) (numbersAt (m .table) row) (ruleOf (numbersAt (m .table) row))))
 
 unfoldable pub spansAfter : Moment → ℕ → List ℕ → List Span
 spansAfter m row truths =
@@ -72,27 +82,52 @@ truthsAfter m (suc n) = set (truthsAfter m n) n (byteOf (truthOf m n (truthsAfte
 abbrev pub spansJudged : Moment → ℕ → List Span
 spansJudged m row = spansAfter m row (truthsAfter m row)
 
-abbrev pub spansClipped : (table store counts : List ℕ) (time : ℕ) → ℕ → List Span
-spansClipped table store counts time row = clip time (spansHeld (stretchAt table store row) (heldIn counts row))
+abbrev pub spansClipped : (table store counts firsts : List ℕ) (time : ℕ) → ℕ → List Span
+spansClipped table store counts firsts time row = clip time (spansHeld (stretchAt table store row) (heldIn counts firsts row))
+
+-- They with the place of the first: what a stretch lays out.
+pub record Ring : Type 0 where
+  pub first : ℕ
+  pub spans : List Span
+
+abbrev pub ringJudged : Moment → ℕ → Ring
+ringJudged m row = record { first = firstAfter m row (truthsAfter m row); spans = spansJudged m row }
+
+abbrev pub ringClipped : (table store counts firsts : List ℕ) (time : ℕ) → ℕ → Ring
+ringClipped table store counts firsts time row =
+    record {
+      first =
+          firstLeft (spansOf (numbersAt table row)) (heldIn counts firsts row) (length (spansClipped table store counts firsts time row));
+      spans = spansClipped table store counts firsts time row;
+    }
 
 -- What a heartbeat leaves, and what an event makes.
 abbrev pub heartbeatElse : {A : Type 0} → Moment → (heartbeat event : A) → A
 heartbeatElse m heartbeat event = cond (heartbeat? (m .mask)) heartbeat event
 
+abbrev pub ringNow : Moment → ℕ → Ring
+ringNow m = heartbeatElse m (ringClipped (m .table) (m .store) (m .found .counts) (m .found .firsts) (m .time)) (ringJudged m)
+
 abbrev pub spansNow : Moment → ℕ → List Span
-spansNow m = heartbeatElse m (spansClipped (m .table) (m .store) (m .found .counts) (m .time)) (spansJudged m)
+spansNow m row = ringNow m row .spans
 
--- Where each row has such spans: the span counts, and the words, after the rows below n, the others as found.
-unfoldable pub countsWith : (ℕ → List Span) → (counts : List ℕ) → ℕ → List ℕ
-countsWith spans counts zero = counts
-countsWith spans counts (suc n) = set (countsWith spans counts n) n (length (spans n))
+-- Where each row has such a ring: the span counts, the first places and the words, after the rows below n, the others as found.
+unfoldable pub entriesWith : (ℕ → ℕ) → (found : List ℕ) → ℕ → List ℕ
+entriesWith entry found zero = found
+entriesWith entry found (suc n) = set (entriesWith entry found n) n (entry n)
 
-unfoldable pub wordsDone : (table : List ℕ) → (ℕ → List Span) → ℕ → List ℕ
-wordsDone table spans zero = []
-wordsDone table spans (suc n) = wordsDone table spans n ++ packed (width (numbersAt table n)) (spans n)
+abbrev pub countsWith : (ℕ → Ring) → (counts : List ℕ) → ℕ → List ℕ
+countsWith rings counts = entriesWith (λ row. length (rings row .spans)) counts
 
-unfoldable pub storeWith : (table store : List ℕ) → (ℕ → List Span) → ℕ → List ℕ
-storeWith table store spans n = wordsDone table spans n ++ drop (offset table n) store
+abbrev pub firstsWith : (ℕ → Ring) → (firsts : List ℕ) → ℕ → List ℕ
+firstsWith rings firsts = entriesWith (λ row. rings row .first) firsts
+
+unfoldable pub wordsDone : (table : List ℕ) → (ℕ → Ring) → ℕ → List ℕ
+wordsDone table rings zero = []
+wordsDone table rings (suc n) = wordsDone table rings n ++ ringOf (width (numbersAt table n)) (rings n .first) (rings n .spans)
+
+unfoldable pub storeWith : (table store : List ℕ) → (ℕ → Ring) → ℕ → List ℕ
+storeWith table store rings n = wordsDone table rings n ++ drop (offset table n) store
 
 -- The record after all rows: the clock is at the time; "truths stay those of the last true event" at a heartbeat, and so does when that was.
 unfoldable pub recordAfter : Moment → Record
@@ -103,9 +138,10 @@ recordAfter m =
       last = heartbeatElse m (eventTime (m .found)) (m .time);
       rows = m .found .rows;
       truths = heartbeatElse m (m .found .truths) (truthsAfter m (rowsOf (m .table)));
-      counts = countsWith (spansNow m) (m .found .counts) (rowsOf (m .table));
+      counts = countsWith (ringNow m) (m .found .counts) (rowsOf (m .table));
+      firsts = firstsWith (ringNow m) (m .found .firsts) (rowsOf (m .table));
     }
 
 -- The store after them.
 abbrev pub storeAfter : Moment → List ℕ
-storeAfter m = storeWith (m .table) (m .store) (spansNow m) (rowsOf (m .table))
+storeAfter m = storeWith (m .table) (m .store) (ringNow m) (rowsOf (m .table))

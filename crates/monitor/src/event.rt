@@ -44,14 +44,15 @@ pub(crate) struct Arrival {
     pub(crate) last: u64,
 }
 
-// What judging a row gives: its truth, how many spans it holds, and where its stretch ends.
+// What judging a row gives: its truth, how many spans it holds and the place of the first, and where its stretch ends.
 pub(crate) struct Judgement {
     pub(crate) truth: bool,
     pub(crate) count: u32,
+    pub(crate) first: u32,
     pub(crate) end: usize,
 }
 
-// Every row is judged, from the truths of the lower rows. The arrays hold the found truths and counts, and then those after the event.
+// Every row is judged, from the truths of the lower rows. The arrays hold the found truths, counts and first places, and then those after the event.
 pub(crate) fn judge_rows(
     table: &[u32],
     store: &mut [u64],
@@ -60,37 +61,42 @@ pub(crate) fn judge_rows(
     found: &[u8; ROW_LIMIT],
     truths: &mut [u8; ROW_LIMIT],
     counts: &mut [u32; ROW_LIMIT],
+    firsts: &mut [u32; ROW_LIMIT],
 )
-    requires { ⌜ UnrefusedBySome (now table) (now store) arrival rows (now found) (now counts) ⌝ }
+    requires { ⌜ UnrefusedBySome (now table) (now store) arrival rows (now found) (now counts) (now firsts) ⌝ }
     requires { ⌜ (rows ≡ rowsOf (now table)) × (now truths ≡ now found) ⌝ }
-    ensures { λ r. ⌜ AfterRows (momentMet (now (table .entry)) (now (store .entry)) arrival rows (now (found .entry)) (now (counts .entry)))
-        rows (now (truths .exit)) (now (counts .exit)) (now (store .exit)) ⌝ }
+    ensures { λ r. ⌜ AfterRows
+        (momentMet (now (table .entry)) (now (store .entry)) arrival rows (now (found .entry)) (now (counts .entry)) (now (firsts .entry)))
+        rows (now (truths .exit)) (now (counts .exit)) (now (firsts .exit)) (now (store .exit)) ⌝ }
 {
     let mut from = 0;
     let mut row = 0;
     while row < rows {
         let numbers = numbers_at(table, row);
         let count = counts[row];
-        let judged = judge_row(store, from, numbers, count, arrival, found, truths);
+        let first = firsts[row];
+        let judged = judge_row(store, from, numbers, first, count, arrival, found, truths);
         truths[row] = byte_of(judged.truth);
         counts[row] = judged.count;
+        firsts[row] = judged.first;
         from = judged.end;
         row += 1;
     }
 }
 
-// One row, whose stretch begins at word `from` and holds so many spans.
+// One row, whose stretch begins at word `from` and holds so many spans from a first place on.
 fn judge_row(
     store: &mut [u64],
     from: usize,
     numbers: Numbers,
+    first: u32,
     count: u32,
     arrival: Arrival,
     found: &[u8; ROW_LIMIT],
     truths: &[u8; ROW_LIMIT],
 ) -> Judgement
-    requires { ⌜ RowReady (now store) from numbers (heldOf count) arrival (now truths) ⌝ }
-    ensures { λ r. ⌜ RowJudged (now (store .entry)) from numbers (heldOf count) arrival (now (found .entry)) (now (truths .entry))
+    requires { ⌜ RowReady (now store) from numbers (heldOf first count) arrival (now truths) ⌝ }
+    ensures { λ r. ⌜ RowJudged (now (store .entry)) from numbers (heldOf first count) arrival (now (found .entry)) (now (truths .entry))
         (now (store .exit)) r ⌝ }
 {
     let end = from + stretch::words(numbers) as usize;
@@ -100,17 +106,29 @@ fn judge_row(
         let keep = keeps(keeper, numbers, truths);
         let feeder = columns.feed;
         let feed = feeds(feeder, columns.when, numbers, truths);
-        let updated = judge_stretch(store, from, end, count, keep, feed, arrival.time, numbers);
+        let updated = judge_stretch(
+            store,
+            from,
+            end,
+            first,
+            count,
+            keep,
+            feed,
+            arrival.time,
+            numbers,
+        );
         let held = updated.held;
         return Judgement {
             truth: taken(columns.inside, updated.covered),
             count: held.count as u32,
+            first: held.first as u32,
             end,
         };
     }
     Judgement {
         truth: judge_plain(numbers, arrival, found, truths),
         count: 0,
+        first: 0,
         end,
     }
 }
@@ -153,6 +171,7 @@ fn judge_stretch(
     store: &mut [u64],
     from: usize,
     end: usize,
+    place: u32,
     count: u32,
     keep: bool,
     feed: bool,
@@ -160,11 +179,12 @@ fn judge_stretch(
     numbers: Numbers,
 ) -> Updated
     requires { ⌜ time ≤ timeLimit ⌝ }
-    requires { ⌜ UpdateReady from end (now store) (heldOf count) keep feed time (reachedFrom time (numbers .a) (endOf (numbers .b))) ⌝ }
-    ensures { λ r. ⌜ UpdatedIn from end (now (store .entry)) (heldOf count) keep feed time (reachedFrom time (numbers .a) (endOf (numbers .b)))
+    requires { ⌜ UpdateReady from end (now store) (heldOf place count) keep feed time (reachedFrom time (numbers .a) (endOf (numbers .b))) ⌝ }
+    ensures { λ r. ⌜ UpdatedIn from end (now (store .entry)) (heldOf place count) keep feed time (reachedFrom time (numbers .a) (endOf (numbers .b)))
         r (now (store .exit)) ⌝ }
 {
     let held = Held {
+        first: place as usize,
         count: count as usize,
     };
     let first = time + wide(numbers.a);

@@ -1,4 +1,4 @@
-// One call, an event or a frame, the record handed in and back. Everything is checked before anything is written. The truths and counts are taken out of
+// One call, an event or a frame, the record handed in and back. Everything is checked before anything is written. The arrays are taken out of
 // the record once and lent on, so that no record is copied below a call.
 
 use crate::answer::Answer;
@@ -49,9 +49,19 @@ pub fn event(
     };
     let mut truths = found.truths;
     let mut counts = found.counts;
+    let mut firsts = found.firsts;
     let rows = found.rows;
-    let told = judge(table, list, store, arrival, rows, &mut truths, &mut counts);
-    give(told, rows, truths, counts)
+    let told = judge(
+        table,
+        list,
+        store,
+        arrival,
+        rows,
+        &mut truths,
+        &mut counts,
+        &mut firsts,
+    );
+    give(told, rows, truths, counts, firsts)
 }
 
 // The same for a frame, at the time that its counter shows. A refused frame does not move the time. It does not call `event`: that would copy the record
@@ -76,9 +86,19 @@ pub fn frame(
     };
     let mut truths = found.truths;
     let mut counts = found.counts;
+    let mut firsts = found.firsts;
     let rows = found.rows;
-    let told = judge(table, list, store, arrival, rows, &mut truths, &mut counts);
-    give(told, rows, truths, counts)
+    let told = judge(
+        table,
+        list,
+        store,
+        arrival,
+        rows,
+        &mut truths,
+        &mut counts,
+        &mut firsts,
+    );
+    give(told, rows, truths, counts, firsts)
 }
 
 // The answer, and what the record says of the times after it.
@@ -98,9 +118,10 @@ fn judge(
     count: u32,
     truths: &mut [u8; ROW_LIMIT],
     counts: &mut [u32; ROW_LIMIT],
+    firsts: &mut [u32; ROW_LIMIT],
 ) -> Told
-    ensures { λ r. ⌜ LeftIn (outcomeMet (setupOf (now (table .entry)) (now (list .entry))) (now (store .entry)) arrival count (now (truths .entry)) (now (counts .entry)))
-        r (now (truths .exit)) (now (counts .exit)) (now (store .exit)) ⌝ }
+    ensures { λ r. ⌜ LeftIn (outcomeMet (setupOf (now (table .entry)) (now (list .entry))) (now (store .entry)) arrival count (now (truths .entry)) (now (counts .entry)) (now (firsts .entry)))
+        r (now (truths .exit)) (now (counts .exit)) (now (firsts .exit)) (now (store .exit)) ⌝ }
 {
     let checked = fit(
         table,
@@ -112,6 +133,7 @@ fn judge(
         count,
         truths,
         counts,
+        firsts,
     );
     match checked {
         Checked::Refused(refusal) => refused(refusal, arrival),
@@ -123,6 +145,7 @@ fn judge(
             arrival,
             truths,
             counts,
+            firsts,
         ),
     }
 }
@@ -136,11 +159,12 @@ fn judge_sound(
     arrival: Arrival,
     truths: &mut [u8; ROW_LIMIT],
     counts: &mut [u32; ROW_LIMIT],
+    firsts: &mut [u32; ROW_LIMIT],
 ) -> Told
     requires { ⌜ (refusalIn (readyOf (setupOf (now table) (now list)) (length (now store))) ≡ none) × (rows ≡ rowsOf (now table)) ⌝ }
-    requires { ⌜ sound? (now table) (now store) (recordMet arrival rows (now truths) (now counts)) ≡ true ⌝ }
-    ensures { λ r. ⌜ LeftIn (outcomeMet (setupOf (now (table .entry)) (now (list .entry))) (now (store .entry)) arrival rows (now (truths .entry)) (now (counts .entry)))
-        r (now (truths .exit)) (now (counts .exit)) (now (store .exit)) ⌝ }
+    requires { ⌜ sound? (now table) (now store) (recordMet arrival rows (now truths) (now counts) (now firsts)) ≡ true ⌝ }
+    ensures { λ r. ⌜ LeftIn (outcomeMet (setupOf (now (table .entry)) (now (list .entry))) (now (store .entry)) arrival rows (now (truths .entry)) (now (counts .entry)) (now (firsts .entry)))
+        r (now (truths .exit)) (now (counts .exit)) (now (firsts .exit)) (now (store .exit)) ⌝ }
 {
     if TIME_LIMIT < arrival.time {
         return refused(Refusal::Late, arrival);
@@ -149,7 +173,7 @@ fn judge_sound(
         return refused(Refusal::Earlier, arrival);
     }
     if is_heartbeat(arrival.mask) {
-        clip_rows(table, store, rows, arrival.time, counts);
+        clip_rows(table, store, rows, arrival.time, counts, firsts);
         return Told {
             answer: Answer::ClockMoved,
             seen: arrival.seen,
@@ -157,7 +181,7 @@ fn judge_sound(
             last: arrival.last,
         };
     }
-    accept(table, list, store, rows, arrival, truths, counts)
+    accept(table, list, store, rows, arrival, truths, counts, firsts)
 }
 
 // An event: the rows are judged beside a copy of the found truths; those of the listed rows are the verdict.
@@ -169,14 +193,15 @@ fn accept(
     arrival: Arrival,
     truths: &mut [u8; ROW_LIMIT],
     counts: &mut [u32; ROW_LIMIT],
+    firsts: &mut [u32; ROW_LIMIT],
 ) -> Told
-    requires { ⌜ Unrefused (setupOf (now table) (now list)) (now store) arrival rows (now truths) (now counts) ⌝ }
+    requires { ⌜ Unrefused (setupOf (now table) (now list)) (now store) arrival rows (now truths) (now counts) (now firsts) ⌝ }
     requires { ⌜ (rows ≡ rowsOf (now table)) × (heartbeat? (arrival .mask) ≡ false) ⌝ }
-    ensures { λ r. ⌜ LeftIn (outcomeMet (setupOf (now (table .entry)) (now (list .entry))) (now (store .entry)) arrival rows (now (truths .entry)) (now (counts .entry)))
-        r (now (truths .exit)) (now (counts .exit)) (now (store .exit)) ⌝ }
+    ensures { λ r. ⌜ LeftIn (outcomeMet (setupOf (now (table .entry)) (now (list .entry))) (now (store .entry)) arrival rows (now (truths .entry)) (now (counts .entry)) (now (firsts .entry)))
+        r (now (truths .exit)) (now (counts .exit)) (now (firsts .exit)) (now (store .exit)) ⌝ }
 {
     let found = *truths;
-    judge_rows(table, store, rows, arrival, &found, truths, counts);
+    judge_rows(table, store, rows, arrival, &found, truths, counts, firsts);
     Told {
         answer: Answer::Verdict(verdict(truths, list)),
         seen: 1,
@@ -185,7 +210,7 @@ fn accept(
     }
 }
 
-// A refused call leaves the truths and the counts, and the times found.
+// A refused call leaves the arrays, and the times found.
 fn refused(fault: Refusal, arrival: Arrival) -> Told
     ensures { λ r. ⌜ r ≡ refusedTold fault arrival ⌝ }
 {
@@ -198,8 +223,14 @@ fn refused(fault: Refusal, arrival: Arrival) -> Told
 }
 
 // The answer with its record, put together of what is told and what stands in the arrays.
-fn give(told: Told, rows: u32, truths: [u8; ROW_LIMIT], counts: [u32; ROW_LIMIT]) -> Judged
-    ensures { λ r. ⌜ (r .answer ≡ told .answer) × (r .record ≡ recordOf (told .seen) (told .clock) (told .last) rows truths counts) ⌝ }
+fn give(
+    told: Told,
+    rows: u32,
+    truths: [u8; ROW_LIMIT],
+    counts: [u32; ROW_LIMIT],
+    firsts: [u32; ROW_LIMIT],
+) -> Judged
+    ensures { λ r. ⌜ (r .answer ≡ told .answer) × (r .record ≡ recordOf (told .seen) (told .clock) (told .last) rows truths counts firsts) ⌝ }
 {
     let answer = told.answer;
     Judged {
@@ -211,6 +242,7 @@ fn give(told: Told, rows: u32, truths: [u8; ROW_LIMIT], counts: [u32; ROW_LIMIT]
             rows,
             truths,
             counts,
+            firsts,
         },
     }
 }

@@ -84,6 +84,7 @@ fn main() {
     tables();
     spans();
     heartbeats();
+    rings();
     stores();
     records();
     clocks();
@@ -133,6 +134,36 @@ fn heartbeats() {
     );
     say(b"-- p since [2,3] q, a heartbeat before any event\n");
     stream(&SINCE, &THIRD, &[5, 4, 5, 6], &[HEARTBEAT, Q, Q, HEARTBEAT]);
+}
+
+// The first place goes on, round, with each span dropped, by an event or a heartbeat, and is 0 where none is left. Then records that were never reached:
+// sound with a first place of 1; not sound with one outside the stretch, of a row that holds no span, of one without a stretch.
+fn rings() {
+    say(b"-- once [2,2] p, p at every other millisecond\n");
+    stream(
+        &ONCE_TWO,
+        &THIRD,
+        &[0, 2, 4, 6, 7, 8, 9],
+        &[P, P, P, P, HEARTBEAT, 0, P],
+    );
+    say(b"-- once [2,2] p, from first places that were never reached\n");
+    let mut space = [0, 0, 4, 4];
+    let store: &mut [u64] = &mut space;
+    let mut kept = nothing_seen(3);
+    kept.seen = 1;
+    kept.clock = 4;
+    kept.last = 4;
+    kept.counts[2] = 1;
+    kept.firsts[2] = 2;
+    call(&ONCE_TWO, &THIRD, store, kept, 4, P);
+    kept.firsts[2] = 1;
+    kept.firsts[1] = 1;
+    call(&ONCE_TWO, &THIRD, store, kept, 4, P);
+    kept.firsts[1] = 0;
+    let went = call(&ONCE_TWO, &THIRD, store, kept, 4, P);
+    let mut none = call(&ONCE_TWO, &THIRD, store, went, 7, 0);
+    none.firsts[2] = 1;
+    call(&ONCE_TWO, &THIRD, store, none, 7, 0);
 }
 
 fn stores() {
@@ -374,10 +405,12 @@ fn truth(byte: u8) {
     labelled(b" ", byte as u64);
 }
 
+// The times, the row count, the first place of row 2, which in most of these tables has a stretch, and the store.
 fn left(kept: Record, store: &[u64]) {
     labelled(b", clock ", kept.clock);
     labelled(b", last ", kept.last);
     labelled(b", rows ", kept.rows as u64);
+    placed(kept.firsts[2]);
     say(b", store");
     word(store, 0);
     word(store, 1);
@@ -385,6 +418,10 @@ fn left(kept: Record, store: &[u64]) {
     word(store, 3);
     word(store, 4);
     say(b"\n");
+}
+
+fn placed(first: u32) {
+    labelled(b", first ", first as u64);
 }
 
 fn word(store: &[u64], at: usize) {

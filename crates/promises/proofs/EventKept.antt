@@ -34,9 +34,9 @@ use Rattle.times.specs.Times.{timeLimit}
 use Rattle.row_list.specs.Truths.{truthAt}
 use Rattle.soundness.specs.Record.{wasSeen, clockOf, eventTime}
 use Rattle.spans.proofs.CoverLaws.{covered-told}
-use Rattle.monitor.proofs.EventLaws.{Room, length-store}
+use Rattle.monitor.proofs.EventLaws.{Room, length-store, spans-judged}
 use Rattle.monitor.proofs.RisingLaws.{truth-told}
-use Rattle.monitor.specs.Event.{Moment, arrivalOf, spansBy, spansAfter, truthBy, truthOf, truthsAfter, spansJudged, spansNow, recordAfter, storeAfter}
+use Rattle.monitor.specs.Event.{Moment, arrivalOf, spansBy, spansAfter, truthBy, truthOf, truthsAfter, spansJudged, ringNow, spansNow, recordAfter, storeAfter}
 use Rattle.promises.specs.Stream.{State}
 use Rattle.promises.specs.Verdicts.{Says}
 use Rattle.promises.specs.Spans.{KeeperHolds, FeederHolds}
@@ -203,7 +203,7 @@ module _ {table : List ℕ} {h : History} {clock : ℕ} {s : State} (inv : Invar
   risen : clockOf (s .found) ≤ time
   risen = omega (arith, inv .time)
 
-  spans-fit : Room table (spansNow m) (rowsOf table)
+  spans-fit : Room table (ringNow m) (rowsOf table)
   spans-fit = room-after m (inv .ready) (inv .sound) within risen
 
   abbrev pub stateAfter : State
@@ -213,13 +213,14 @@ module _ {table : List ℕ} {h : History} {clock : ℕ} {s : State} (inv : Invar
   unfolding recordAfter
   row-follows row known =
       let counts : row < length (s .found .counts) = omega (arith, inv .sized .counts, passes inv .few-rows) in
+      let firsts : row < length (s .found .firsts) = omega (arith, inv .sized .firsts, passes inv .few-rows) in
       let told : Tells (truthAt (truthsAfter m (rowsOf table)) row) (Holds (formulaOf table row) longer) =
       truths-told (rowsOf table) (omega arith) (rows-told (rowsOf table) (omega arith)) row known
       in
       record {
         spans = spansNow m row;
-        spanned = rw no-beat (spans-told row known);
-        laid = row-laid m row known counts spans-fit;
+        spanned = rw (spans-judged m row no-beat) (spans-told row known);
+        laid = row-laid m row known counts firsts spans-fit;
         says = rw no-beat (told .sound, told .complete);
       }
 
@@ -231,7 +232,7 @@ module _ {table : List ℕ} {h : History} {clock : ℕ} {s : State} (inv : Invar
         event = rw no-beat;
         time = refl;
         seen = rw no-beat;
-        ready = rw (length-store table (spansNow m) (s .store) (rowsOf table) spans-fit (inv .ready .room)) (inv .ready);
+        ready = rw (length-store table (ringNow m) (s .store) (rowsOf table) spans-fit (inv .ready .room)) (inv .ready);
         sized = sized-after m (inv .sized);
         sound = sound-after m (inv .ready) (inv .sound) risen within (inv .sized);
         follows = row-follows;

@@ -15,8 +15,8 @@ use Rattle.kinds.specs.Kinds.{Rule, plain, stretch}
 use Rattle.rules.specs.Rows.{rowsOf, numbersAt, ruleOf}
 use Rattle.times.specs.Times.{timeLimit}
 use Rattle.soundness.specs.Record.{clockOf}
-use Rattle.monitor.specs.Event.{Moment, spansNow, recordAfter, storeAfter}
-use Rattle.monitor.proofs.EventLaws.{Room, length-store}
+use Rattle.monitor.specs.Event.{Moment, ringNow, spansNow, recordAfter, storeAfter}
+use Rattle.monitor.proofs.EventLaws.{Room, length-store, spans-clipped}
 use Rattle.promises.specs.Stream.{State}
 use Rattle.promises.specs.Spans.{KeeperHolds, FeederHolds}
 use Rattle.promises.proofs.Invariant.{Spanned, RowFollows, Invariant}
@@ -44,7 +44,7 @@ module _ {table : List ℕ} {h : History} {clock : ℕ} {s : State} (inv : Invar
   risen : clockOf (s .found) ≤ time
   risen = omega (arith, inv .time)
 
-  spans-fit : Room table (spansNow m) (rowsOf table)
+  spans-fit : Room table (ringNow m) (rowsOf table)
   spans-fit = room-after m (inv .ready) (inv .sound) within risen
 
   abbrev stateAfter : State
@@ -54,13 +54,14 @@ module _ {table : List ℕ} {h : History} {clock : ℕ} {s : State} (inv : Invar
   unfolding recordAfter
   row-follows row known =
       let counts : row < length (s .found .counts) = omega (arith, inv .sized .counts, passes inv .few-rows) in
+      let firsts : row < length (s .found .firsts) = omega (arith, inv .sized .firsts, passes inv .few-rows) in
       let rule = ruleOf (numbersAt table row) in
       record {
         spans = spansNow m row;
         spanned =
-            rw (beat, spans-found inv row known)
+            rw (spans-clipped m row beat, spans-found inv row known)
             (spanned-later table row h clock time later rule (inv .follows row known .spans) (inv .follows row known .spanned));
-        laid = row-laid m row known counts spans-fit;
+        laid = row-laid m row known counts firsts spans-fit;
         says = rw beat (inv .follows row known .says);
       }
 
@@ -72,7 +73,7 @@ module _ {table : List ℕ} {h : History} {clock : ℕ} {s : State} (inv : Invar
         event = rw beat (inv .event);
         time = refl;
         seen = rw beat (inv .seen);
-        ready = rw (length-store table (spansNow m) (s .store) (rowsOf table) spans-fit (inv .ready .room)) (inv .ready);
+        ready = rw (length-store table (ringNow m) (s .store) (rowsOf table) spans-fit (inv .ready .room)) (inv .ready);
         sized = sized-after m (inv .sized);
         sound = sound-after m (inv .ready) (inv .sound) risen within (inv .sized);
         follows = row-follows;

@@ -29,6 +29,7 @@ use Rattle.monitor.proofs.RisingLaws.{truth-told}
 use Rattle.soundness.specs.declared.record.Record.{Record}
 use Rattle.row_list.specs.Truths.{truthAt}
 use Rattle.soundness.specs.Record.{spansFound, clockOf, eventTime}
+use Rattle.monitor.proofs.EventLaws.{spans-clipped, spans-judged}
 use Rattle.monitor.specs.Event.{Moment, spansAfter, truthOf, truthsAfter, spansJudged, spansNow, recordAfter, storeAfter}
 use Rattle.soundness.specs.Setup.{Setup}
 use Rattle.monitor.specs.Step.{Call, timeOf, refusalOf, momentOf, verdictOf, verdict, clockMoved, acceptedReply, stepOf}
@@ -183,12 +184,13 @@ module _
         (test-in-or-out (columns .inside) (covered-told (m .time) (spansJudged m row)))
 
     now-is : spansNow m row ≡ spansJudged m row
-    now-is = rw no-beat
+    now-is = spans-judged m row no-beat
 
     now-laid : LaysOut (setup .table) row (storeAfter m) (recordAfter m) (spansJudged m row)
     now-laid =
         subst (LaysOut (setup .table) row (storeAfter m) (recordAfter m)) now-is
         (row-laid m row lower (omega (arith, accepted .ready .right .lengths .most, sized .counts))
+        (omega (arith, accepted .ready .right .lengths .most, sized .firsts))
         (room-after m (room-of (accepted .ready)) (accepted .sound) (accepted .early) (accepted .risen)))
 
     one-event : OneEvent setup store found c row columns
@@ -238,12 +240,13 @@ module _ (setup : Setup) (store : List ℕ) (found : Record) (c : Call) (moved :
     rest = clip (met .time) (spansFound (setup .table) store found row)
 
     rest-is : spansNow met row ≡ rest
-    rest-is = rw beat
+    rest-is = spans-clipped met row beat
 
     rest-laid : LaysOut (setup .table) row (storeAfter met) (recordAfter met) rest
     rest-laid =
         subst (LaysOut (setup .table) row (storeAfter met) (recordAfter met)) rest-is
         (row-laid met row lower (omega (arith, moved-accepted .ready .right .lengths .most, sized .counts))
+        (omega (arith, moved-accepted .ready .right .lengths .most, sized .firsts))
         (room-after met (room-of (moved-accepted .ready)) (moved-accepted .sound) (moved-accepted .early) (moved-accepted .risen)))
 
     one-heartbeat : OneHeartbeat setup store found c row

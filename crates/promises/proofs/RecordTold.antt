@@ -68,17 +68,27 @@ entry-told table found row =
     (tells-and (tells-leb (getD (found .truths) row 0) 1) (tells-leb (getD (found .counts) row 0) (spansOf (numbersAt table row))))
     (tells-or (tells-flag (wasSeen found)) (blank-told found row)))
 
+-- The same with no first place.
+abbrev Bare : Record → ℕ → Type 0
+Bare found row = Blank found row × (getD (found .firsts) row 0 ≡ 0)
+
 past-told : (table : List ℕ) (found : Record) (row : ℕ)
-    → Tells (zeroPast? (rowsOf table) (found .truths) (found .counts) row) ((row < rowsOf table) ⊎ Blank found row)
+    → Tells (zeroPast? (rowsOf table) (found .truths) (found .counts) (found .firsts) row) ((row < rowsOf table) ⊎ Bare found row)
 unfolding zeroPast?
-past-told table found row = tells-or (tells-ltb row (rowsOf table)) (blank-told found row)
+past-told table found row =
+    tells-or
+    (tells-ltb row (rowsOf table))
+    (tells-same
+    (λ h. ((h .0, h .1 .0), h .1 .1))
+    (λ bare. (bare .0 .0, (bare .0 .1, bare .1)))
+    (tells-and (tells-eqb (getD (found .truths) row 0) 0) (tells-and (tells-eqb (getD (found .counts) row 0) 0) (tells-eqb (getD (found .firsts) row 0) 0))))
 
 -- What it asks of the record, in its order.
 record Tested (table store : List ℕ) (found : Record) : Type 0 where
   count : found .rows ≡ rowsOf table
   times : TimesRight found
   rows : (row : ℕ) → row < rowsOf table → EntryRight table found row × StretchRight table store found row
-  past : (row : ℕ) → row < rowLimit → (row < rowsOf table) ⊎ Blank found row
+  past : (row : ℕ) → row < rowLimit → (row < rowsOf table) ⊎ Bare found row
 
 module _ (table store : List ℕ) (ready : TableRoom table (length store)) (found : Record) where
   row-told : eventTime found ≤ timeLimit
@@ -98,22 +108,29 @@ module _ (table store : List ℕ) (ready : TableRoom table (length store)) (foun
       (tells-and-then
       (tells-and (tells-eqb (found .rows) (rowsOf table)) (times-told found))
       (λ before. tells-every (rowsOf table) (soundRow? table store found) _ (row-told (omega (arith, before .1 .order, before .1 .limit)))))
-      (tells-every rowLimit (zeroPast? (rowsOf table) (found .truths) (found .counts)) _ (λ row lower. past-told table found row)))
+      (tells-every rowLimit (zeroPast? (rowsOf table) (found .truths) (found .counts) (found .firsts)) _ (λ row lower. past-told table found row)))
 
   -- A row is one of the table's, or nothing is said of it.
   row-or-blank : Tested table store found → (row : ℕ) → row < rowLimit → ((row < rowsOf table) × EntryRight table found row) ⊎ Blank found row
-  row-or-blank tested row lower = ⊎-elim (λ known. inl (known, tested .rows row known .0)) inr (tested .past row lower)
+  row-or-blank tested row lower = ⊎-elim (λ known. inl (known, tested .rows row known .0)) (λ bare. inr (bare .0)) (tested .past row lower)
 
   right-of-tested : Tested table store found → RecordRight table store found
   right-of-tested tested =
       record {
         rows = tested .count;
-        past = λ row past lower. ⊎-elim (λ known. absurd (omega arith)) (λ blank. unset-at (found .truths) row (blank .0)) (tested .past row lower);
+        past = λ row past lower. ⊎-elim (λ known. absurd (omega arith)) (λ bare. unset-at (found .truths) row (bare .0 .0)) (tested .past row lower);
         others = λ row lower other.
             ⊎-elim
             (λ known. omega (arith, known .1 .count, other-spans (numbersAt table row) other))
             (λ blank. blank .1)
             (row-or-blank tested row lower);
+        unplaced = λ row lower other.
+            ⊎-elim
+            (λ known.
+            tested .rows row known .1 .laid .unplaced
+            (omega (arith, tested .rows row known .0 .count, other-spans (numbersAt table row) other)))
+            (λ bare. bare .1)
+            (tested .past row lower);
         within = λ row lower since.
             ⊎-elim
             (λ known. rw (← since-spans (numbersAt table row) since) (known .1 .count))
@@ -154,13 +171,13 @@ module _ (table store : List ℕ) (ready : TableRoom table (length store)) (foun
             (λ unseen. let both = right .unseen-rows unseen row lower in blank-of right row lower (both .0) (both .1));
       }
 
-  past-of-right : RecordRight table store found → (row : ℕ) → row < rowLimit → (row < rowsOf table) ⊎ Blank found row
+  past-of-right : RecordRight table store found → (row : ℕ) → row < rowLimit → (row < rowsOf table) ⊎ Bare found row
   past-of-right right row lower =
       ⊎-elim
       inl
       (λ past.
-      inr
-      (blank-of right row lower (right .past row past lower) (right .others row lower (past-other table row (ready .right .lengths) past))))
+      let other = past-other table row (ready .right .lengths) past in
+      inr (blank-of right row lower (right .past row past lower) (right .others row lower other), right .unplaced row lower other))
       (within-or-past table row)
 
   -- Every row's stretch of a sound record is right, a since row's or not.
@@ -168,7 +185,9 @@ module _ (table store : List ℕ) (ready : TableRoom table (length store)) (foun
   all-stretches right row lower =
       ⊎-elim
       (right .stretches row lower)
-      (λ other. other-stretch table store ready found row other (right .others row (omega (arith, ready .right .lengths .most)) other))
+      (λ other.
+      let within : row < rowLimit = omega (arith, ready .right .lengths .most) in
+      other-stretch table store ready found row other (right .others row within other) (right .unplaced row within other))
       (since-or-other (numbersAt table row))
 
   pub record-told : Tells (sound? table store found) (RecordRight table store found)

@@ -17,7 +17,7 @@ use Rattle.rules.proofs.PassedLaws.{InRange, range-order}
 use Rattle.times.specs.Times.{timeLimit}
 use Rattle.row_list.specs.Truths.{truthAt}
 use Rattle.soundness.specs.Record.{spansFound, clockOf, eventTime}
-use Rattle.monitor.specs.Event.{Moment, spansBy, spansAfter, truthsAfter, spansJudged, spansClipped, heartbeatElse, spansNow}
+use Rattle.monitor.specs.Event.{Moment, spansBy, spansAfter, truthsAfter, spansJudged, spansClipped, ringJudged, ringClipped, heartbeatElse, ringNow, spansNow}
 use Rattle.spans.proofs.LayoutLaws.{laid-read}
 use Rattle.meaning.proofs.SoundKept.{clip-sound, sound-kept}
 use Rattle.meaning.proofs.Tells.{told-true}
@@ -49,7 +49,7 @@ pub room-after : (m : Moment)
     → RecordRight (m .table) (m .store) (m .found)
     → m .time ≤ timeLimit
     → clockOf (m .found) ≤ m .time
-    → Room (m .table) (spansNow m) (rowsOf (m .table))
+    → Room (m .table) (ringNow m) (rowsOf (m .table))
 room-after m ready right early risen = now-enough m (monitor-met m ready right early risen)
 
 module _
@@ -100,7 +100,7 @@ module _
     unfolding spansAfter
     judged-sound = by-sound (truthsAfter m row) (ruleOf n)
 
-    clipped-sound : RowSound n (m .time) event (spansClipped (m .table) (m .store) (m .found .counts) (m .time) row)
+    clipped-sound : RowSound n (m .time) event (spansClipped (m .table) (m .store) (m .found .counts) (m .found .firsts) (m .time) row)
     clipped-sound =
         clip-sound clock (m .time) event event (max clock (event + n .a)) (max (m .time) (event + n .a)) (lengthOf (n .a) (endOf (n .b)))
         (endOf (n .b)) before risen (omega arith) (omega arith) (omega arith) found-sound
@@ -111,6 +111,6 @@ module _
       where
         go : (beat : Bool)
             → RowSound n (m .time) (cond beat event (m .time))
-            (cond beat (spansClipped (m .table) (m .store) (m .found .counts) (m .time)) (spansJudged m) row)
+            (cond beat (ringClipped (m .table) (m .store) (m .found .counts) (m .found .firsts) (m .time)) (ringJudged m) row .spans)
         go true = clipped-sound
         go false = judged-sound

@@ -13,20 +13,20 @@ use Rattle.meaning.specs.Heartbeat.{heartbeat?}
 use Rattle.meaning.proofs.Truths.{no-truth}
 use Rattle.meaning.specs.Spans.{clip}
 use Rattle.rules.specs.Limits.{rowLimit}
-use Rattle.spans.specs.Layout.{spansFrom, spansHeld}
+use Rattle.spans.specs.Layout.{spansFrom, spansHeld, Laid}
 use Rattle.refusals.specs.Refusals.{Refused}
 use Rattle.rules.specs.Rows.{rowsOf, numbersAt}
-use Rattle.rules.specs.Stretches.{spansOf}
+use Rattle.rules.specs.Stretches.{spansOf, width}
 use Rattle.soundness.specs.declared.record.Record.{Record}
 use Rattle.times.specs.Times.{timeLimit}
 use Rattle.row_list.specs.Truths.{byteOf, isTrue, truthAt}
-use Rattle.soundness.specs.Record.{wasSeen, clockOf, eventTime, stretchAt}
-use Rattle.monitor.specs.Event.{Moment, truthOf, truthsAfter, spansNow, countsWith, recordAfter, storeAfter}
+use Rattle.soundness.specs.Record.{wasSeen, clockOf, eventTime, stretchAt, heldAt}
+use Rattle.monitor.specs.Event.{Moment, truthOf, truthsAfter, ringNow, spansNow, countsWith, recordAfter, storeAfter}
 use Rattle.soundness.specs.Setup.{Setup}
 use Rattle.monitor.specs.Step.{refusalOf, momentOf, outcomeBy, stepOf}
 use Rattle.row_list.proofs.TruthsLaws.{byte-small}
-use Rattle.monitor.proofs.EventLaws.{Room, length-store}
-use Rattle.monitor.proofs.RisingLaws.{length-truths, truth-set, truth-left, length-counts, count-set, count-left}
+use Rattle.monitor.proofs.EventLaws.{Room, length-store, spans-clipped}
+use Rattle.monitor.proofs.RisingLaws.{length-truths, truth-set, truth-left, length-entries, entry-set, entry-left}
 use Rattle.promises.specs.Stream.{accepted?}
 use Rattle.promises.specs.Conditions.{RecordRight}
 use Rattle.promises.proofs.TableRefusals.{TableRoom, room-of}
@@ -38,9 +38,9 @@ use Rattle.promises.proofs.SoundAfter.{now-sound, room-after}
 use Rattle.promises.proofs.Refusing.{Accepted, accepted-of}
 
 -- Where no span is held none is left.
-none-clipped : (time : ℕ) (words : List ℕ) → length (clip time (spansHeld words (record { count = 0 }))) ≡ 0
+none-clipped : (time first : ℕ) (words : List ℕ) → length (clip time (spansHeld words (record { first = first; count = 0 }))) ≡ 0
 unfolding clip spansFrom
-none-clipped time words = refl
+none-clipped time first words = refl
 
 module _
     (m : Moment)
@@ -54,16 +54,23 @@ module _
     rows = rowsOf (m .table)
 
     abbrev count : ℕ → ℕ
-    count row = getD (countsWith (spansNow m) (m .found .counts) rows) row 0
+    count row = getD (countsWith (ringNow m) (m .found .counts) rows) row 0
 
-    room : Room (m .table) (spansNow m) rows
+    room : Room (m .table) (ringNow m) rows
     room = room-after m ready right early risen
 
     has-entry : (row : ℕ) → row < rows → row < length (m .found .counts)
     has-entry row lower = omega (arith, ready .right .lengths .most, sized .counts)
 
+    has-first : (row : ℕ) → row < rows → row < length (m .found .firsts)
+    has-first row lower = omega (arith, ready .right .lengths .most, sized .firsts)
+
+    laid-after : (row : ℕ) → row < rows
+        → Laid (width (numbersAt (m .table) row)) (stretchAt (m .table) (storeAfter m) row) (heldAt (recordAfter m) row) (spansNow m row)
+    laid-after row lower = row-laid m row lower (has-entry row lower) (has-first row lower) room
+
     count-fits : (row : ℕ) → row < rows → count row ≤ spansOf (numbersAt (m .table) row)
-    count-fits row lower = rw (count-set (spansNow m) (m .found .counts) rows row lower (has-entry row lower)) (omega (arith, room row lower))
+    count-fits row lower = rw (entry-set (λ r. length (spansNow m r)) (m .found .counts) rows row lower (has-entry row lower)) (room row lower .few)
 
     -- What a heartbeat leaves of the times and the truths, and what an event makes of them.
     record Told (seen last : ℕ) (truths : List ℕ) : Type 0 where
@@ -80,9 +87,9 @@ module _
         let none : getD (m .found .counts) row 0 ≡ 0 = right .unseen-rows unseen row lower .1 in
         ⊎-elim
         (λ known.
-        count-set (spansNow m) (m .found .counts) rows row known (has-entry row known)
-        ∙ rw (beat, none) (none-clipped (m .time) (stretchAt (m .table) (m .store) row)))
-        (λ past. count-left (spansNow m) (m .found .counts) rows row past ∙ none)
+        entry-set (λ r. length (spansNow m r)) (m .found .counts) rows row known (has-entry row known)
+        ∙ rw (spans-clipped m row beat, none) (none-clipped (m .time) (getD (m .found .firsts) row 0) (stretchAt (m .table) (m .store) row)))
+        (λ past. entry-left (λ r. length (spansNow m r)) (m .found .counts) rows row past ∙ none)
         (within-or-past (m .table) row)
 
     found-told : heartbeat? (m .mask) ≡ true → Told (m .found .seen) (eventTime (m .found)) (m .found .truths)
@@ -129,12 +136,17 @@ module _
           others = λ row lower other.
               ⊎-elim
               (λ known. omega (arith, count-fits row known, other-spans (numbersAt (m .table) row) other))
-              (λ past. count-left (spansNow m) (m .found .counts) rows row past ∙ right .others row lower other)
+              (λ past. entry-left (λ r. length (spansNow m r)) (m .found .counts) rows row past ∙ right .others row lower other)
+              (within-or-past (m .table) row);
+          unplaced = λ row lower other.
+              ⊎-elim
+              (λ known. laid-after row known .unplaced (omega (arith, count-fits row known, other-spans (numbersAt (m .table) row) other)))
+              (λ past. entry-left (λ r. ringNow m r .first) (m .found .firsts) rows row past ∙ right .unplaced row lower other)
               (within-or-past (m .table) row);
           within = λ row lower since.
               ⊎-elim
               (λ known. rw (← since-spans (numbersAt (m .table) row) since) (count-fits row known))
-              (λ past. rw (count-left (spansNow m) (m .found .counts) rows row past) (right .within row lower since))
+              (λ past. rw (entry-left (λ r. length (spansNow m r)) (m .found .counts) rows row past) (right .within row lower since))
               (within-or-past (m .table) row);
           unseen-time = told .unseen-time;
           unseen-rows = told .unseen-row;
@@ -145,7 +157,7 @@ module _
           stretches = λ row lower since.
               record {
                 spans = spansNow m row;
-                laid = row-laid m row lower (has-entry row lower) room;
+                laid = laid-after row lower;
                 sound = now-sound m ready right risen row lower;
               };
         }
@@ -155,7 +167,8 @@ unfolding recordAfter
 sized-after m sized =
     record {
       truths = go (heartbeat? (m .mask));
-      counts = length-counts (spansNow m) (m .found .counts) (rowsOf (m .table)) ∙ sized .counts;
+      counts = length-entries (λ r. length (spansNow m r)) (m .found .counts) (rowsOf (m .table)) ∙ sized .counts;
+      firsts = length-entries (λ r. ringNow m r .first) (m .found .firsts) (rowsOf (m .table)) ∙ sized .firsts;
     }
   where
     go : (beat : Bool) → length (cond beat (m .found .truths) (truthsAfter m (rowsOf (m .table)))) ≡ rowLimit
@@ -175,9 +188,9 @@ sound-is-kept setup store found c sized e =
     let m = momentOf setup store found c in
     let passes : refusalOf setup store found c ≡ none = accepted-passes setup store found m (refusalOf setup store found c) e in
     let accepted : Accepted setup store found c = accepted-of setup store found c passes in
-    let room : Room (m .table) (spansNow m) (rowsOf (m .table)) = room-after m (room-of (accepted .ready)) (accepted .sound) (accepted .early) (accepted .risen) in
+    let room : Room (m .table) (ringNow m) (rowsOf (m .table)) = room-after m (room-of (accepted .ready)) (accepted .sound) (accepted .early) (accepted .risen) in
     record {
       sound = rw passes (sound-after m (room-of (accepted .ready)) (accepted .sound) (accepted .risen) (accepted .early) sized);
       sized = rw passes (sized-after m sized);
-      size = rw passes (length-store (m .table) (spansNow m) (m .store) (rowsOf (m .table)) room (accepted .ready .room));
+      size = rw passes (length-store (m .table) (ringNow m) (m .store) (rowsOf (m .table)) room (accepted .ready .room));
     }

@@ -25,7 +25,7 @@ use Rattle.row_list.specs.RowList.{listPasses}
 use Rattle.dead_rows.specs.DeadRows.{lowestDead}
 use Rattle.soundness.specs.Ready.{readyOf}
 use Rattle.monitor.specs.Start.{startOf}
-use Rattle.monitor.specs.Event.{Moment, spansAfter, truthOf, truthsAfter, spansJudged, spansClipped, spansNow, countsWith, wordsDone, recordAfter}
+use Rattle.monitor.specs.Event.{Moment, spansAfter, firstAfter, truthOf, truthsAfter, Ring, ringJudged, ringClipped, ringNow, entriesWith, wordsDone, recordAfter}
 use Rattle.soundness.specs.Setup.{Setup}
 use Rattle.monitor.specs.Step.{Call, timeOf, maskOf, refusalOf, momentOf, stepOf}
 use Rattle.monitor.proofs.EventLaws.{spans-same, truth-same, Room, words-done, words-left}
@@ -107,6 +107,10 @@ module _ (setup : Setup) (store other : List ℕ) (found : Record) (c : Call) (a
   same-spans row truths lower =
       spans-same (setup .table) other store found time (maskOf c) row truths (same-stretch (setup .table) store other alike row lower)
 
+  same-first : (row : ℕ) (truths : List ℕ) → row < rowsOf (setup .table) → firstAfter m row truths ≡ firstAfter m′ row truths
+  unfolding firstAfter
+  same-first row truths lower = rw (same-stretch (setup .table) store other alike row lower)
+
   same-truth : (row : ℕ) (truths : List ℕ) → row < rowsOf (setup .table) → truthOf m row truths ≡ truthOf m′ row truths
   same-truth row truths lower =
       truth-same (setup .table) other store found time (maskOf c) row truths (same-stretch (setup .table) store other alike row lower)
@@ -116,21 +120,23 @@ module _ (setup : Setup) (store other : List ℕ) (found : Record) (c : Call) (a
   same-truths zero within = refl
   same-truths (suc n) within = rw (same-truths n (omega arith), same-truth n (truthsAfter m′ n) within)
 
-  same-now : (row : ℕ) → row < rowsOf (setup .table) → spansNow m row ≡ spansNow m′ row
+  same-now : (row : ℕ) → row < rowsOf (setup .table) → ringNow m row ≡ ringNow m′ row
   same-now row lower = go (heartbeat? (maskOf c))
     where
       go : (beat : Bool)
-          → cond beat (spansClipped (setup .table) store (found .counts) time) (spansJudged m) row
-          ≡ cond beat (spansClipped (setup .table) other (found .counts) time) (spansJudged m′) row
+          → cond beat (ringClipped (setup .table) store (found .counts) (found .firsts) time) (ringJudged m) row
+          ≡ cond beat (ringClipped (setup .table) other (found .counts) (found .firsts) time) (ringJudged m′) row
       go true = rw (same-stretch (setup .table) store other alike row lower)
-      go false = rw (same-truths row (omega arith)) (same-spans row (truthsAfter m′ row) lower)
+      go false =
+          rw (same-truths row (omega arith), same-spans row (truthsAfter m′ row) lower, same-first row (truthsAfter m′ row) lower) refl
 
-  same-counts : (n : ℕ) → n ≤ rowsOf (setup .table) → countsWith (spansNow m) (found .counts) n ≡ countsWith (spansNow m′) (found .counts) n
-  unfolding countsWith
-  same-counts zero within = refl
-  same-counts (suc n) within = rw (same-counts n (omega arith), same-now n within)
+  same-entries : (entry : Ring → ℕ) (entries : List ℕ) (n : ℕ) → n ≤ rowsOf (setup .table)
+      → entriesWith (λ row. entry (ringNow m row)) entries n ≡ entriesWith (λ row. entry (ringNow m′ row)) entries n
+  unfolding entriesWith
+  same-entries entry entries zero within = refl
+  same-entries entry entries (suc n) within = rw (same-entries entry entries n (omega arith), same-now n within)
 
-  same-done : (n : ℕ) → n ≤ rowsOf (setup .table) → wordsDone (setup .table) (spansNow m) n ≡ wordsDone (setup .table) (spansNow m′) n
+  same-done : (n : ℕ) → n ≤ rowsOf (setup .table) → wordsDone (setup .table) (ringNow m) n ≡ wordsDone (setup .table) (ringNow m′) n
   unfolding wordsDone
   same-done zero within = refl
   same-done (suc n) within = rw (same-done n (omega arith), same-now n within)
@@ -142,20 +148,21 @@ module _ (setup : Setup) (store other : List ℕ) (found : Record) (c : Call) (a
   alike-by none e e′ =
       let rows = rowsOf (setup .table) in
       let truths = same-truths rows (omega arith) in
-      let counts = same-counts rows (omega arith) in
+      let counts = same-entries (λ ring. length (ring .spans)) (found .counts) rows (omega arith) in
+      let firsts = same-entries (λ ring. ring .first) (found .firsts) rows (omega arith) in
       let first : Accepted setup store found c = accepted-of setup store found c e in
       let second : Accepted setup other found c = accepted-of setup other found c e′ in
-      let room : Room (setup .table) (spansNow m) rows = room-after m (room-of (first .ready)) (first .sound) (first .early) (first .risen) in
-      let room′ : Room (setup .table) (spansNow m′) rows = room-after m′ (room-of (second .ready)) (second .sound) (second .early) (second .risen) in
+      let room : Room (setup .table) (ringNow m) rows = room-after m (room-of (first .ready)) (first .sound) (first .early) (first .risen) in
+      let room′ : Room (setup .table) (ringNow m′) rows = room-after m′ (room-of (second .ready)) (second .sound) (second .early) (second .risen) in
       record {
         reply = rw (e, e′, truths);
-        left = rw (e, e′, truths, counts);
+        left = rw (e, e′, truths, counts, firsts);
         needed =
             rw (e, e′)
-            (words-done (setup .table) (spansNow m) store rows room
+            (words-done (setup .table) (ringNow m) store rows room
             ∙ same-done rows (omega arith)
-            ∙ sym (words-done (setup .table) (spansNow m′) other rows room′));
-        spare = rw e (words-left (setup .table) (spansNow m) store rows room);
+            ∙ sym (words-done (setup .table) (ringNow m′) other rows room′));
+        spare = rw e (words-left (setup .table) (ringNow m) store rows room);
       }
 
   call-alike : Alike setup store other found c

@@ -1,6 +1,6 @@
 -- The invariant holds after a good start: the words of the need are 0, so no row holds a span, and before the first event there are no runs.
 use mathlib.Core.Bool.{false}
-use mathlib.Core.List.{List, [], _++_, append-assoc}
+use mathlib.Core.List.{List, [], _++_, append-assoc, append-nil}
 use mathlib.Core.Logic.{⊎-elim}
 use mathlib.Core.Path.{_≡_, refl}
 use Prim.Native.Nat.{ℕ, _+_, _*_, _-_, _≤_, _<_}
@@ -17,7 +17,7 @@ use Rattle.rules.specs.Limits.{rowLimit}
 use Rattle.rules.specs.Rows.{rowsOf, numbersAt, ruleOf}
 use Rattle.rules.specs.Stretches.{width, offset, needOf}
 use Rattle.rules.proofs.StretchesLaws.{stretch-before}
-use Rattle.spans.specs.Layout.{wordsOf, packed, Laid}
+use Rattle.spans.specs.Layout.{roundFrom, wordsOf, packed, Laid}
 use Rattle.row_list.specs.Truths.{truthAt}
 use Rattle.soundness.specs.Record.{heldAt, stretchAt, nothingSeen}
 use Rattle.soundness.specs.Setup.{Setup}
@@ -91,16 +91,23 @@ module _ (setup : Setup) (store : List ℕ) (starts : Starts setup store) where
   none-spanned row (plain says) = refl
   none-spanned row (stretch columns) = runs-none (KeeperHolds table row columns) (FeederHolds table row columns) _ _ 0
 
-  stretch-fresh : (row : ℕ) → row < rowsOf table → stretchAt table (fresh .store) row ≡ packed (width (numbersAt table row)) []
-  unfolding stretchAt packed wordsOf
+  stretch-fresh : (row : ℕ) → row < rowsOf table → roundFrom 0 (stretchAt table (fresh .store) row) ≡ packed (width (numbersAt table row)) []
+  unfolding stretchAt packed wordsOf roundFrom
   stretch-fresh row known =
       let inside : offset table row + width (numbersAt table row) ≤ needOf table = stretch-before table row (rowsOf table) known in
       let all : width (numbersAt table row) - 2 * 0 ≡ width (numbersAt table row) = omega arith in
-      rw all (zeros-part (offset table row) (width (numbersAt table row)) (needOf table) (drop (needOf table) store) inside)
+      rw (append-nil, all) (zeros-part (offset table row) (width (numbersAt table row)) (needOf table) (drop (needOf table) store) inside)
 
   row-laid : (row : ℕ) → row < rowsOf table → Laid (width (numbersAt table row)) (stretchAt table (fresh .store) row) (heldAt (fresh .found) row) []
   unfolding nothingSeen
-  row-laid row known = record { written = stretch-fresh row known; counted = zero-at rowLimit row }
+  row-laid row known =
+      let start : getD (fresh .found .firsts) row 0 ≡ 0 = zero-at rowLimit row in
+      record {
+        written = rw start (stretch-fresh row known);
+        counted = zero-at rowLimit row;
+        unplaced = λ _. start;
+        inside = λ some. absurd (omega (arith, zero-at rowLimit row));
+      }
 
   fresh-sound : RecordRight table (fresh .store) (fresh .found)
   unfolding nothingSeen
@@ -109,6 +116,7 @@ module _ (setup : Setup) (store : List ℕ) (starts : Starts setup store) where
         rows = refl;
         past = λ row past inside. false-at rowLimit row;
         others = λ row inside other. zero-at rowLimit row;
+        unplaced = λ row inside other. zero-at rowLimit row;
         within = λ row inside since. rw (zero-at rowLimit row) (omega arith);
         unseen-time = λ unseen. refl;
         unseen-rows = λ unseen row inside. (false-at rowLimit row, zero-at rowLimit row);
@@ -128,7 +136,12 @@ module _ (setup : Setup) (store : List ℕ) (starts : Starts setup store) where
         time = refl;
         seen = refl;
         ready = rw fresh-length (room-of (start-ready setup store starts));
-        sized = record { truths = length-replicate {A = ℕ} rowLimit 0; counts = length-replicate {A = ℕ} rowLimit 0 };
+        sized =
+            record {
+              truths = length-replicate {A = ℕ} rowLimit 0;
+              counts = length-replicate {A = ℕ} rowLimit 0;
+              firsts = length-replicate {A = ℕ} rowLimit 0;
+            };
         sound = fresh-sound;
         follows = λ row known.
             record {

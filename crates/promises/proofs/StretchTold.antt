@@ -24,7 +24,7 @@ use Rattle.rules.specs.declared.numbers.Numbers.{Numbers}
 use Rattle.rules.proofs.PassedLaws.{InRange}
 use Rattle.rules.proofs.StretchesLaws.{spans-by-column, stretch-before}
 use Rattle.soundness.specs.declared.record.Record.{Record}
-use Rattle.spans.specs.Layout.{wordsOf, packed}
+use Rattle.spans.specs.Layout.{roundFrom, wordsOf, packed}
 use Rattle.times.specs.Times.{timeLimit}
 use Rattle.soundness.specs.Record.{heldAt, stretchAt, clockOf, eventTime}
 use Rattle.soundness.specs.Soundness.{soundLimits?}
@@ -105,12 +105,19 @@ module _ (table store : List ℕ) (ready : TableRoom table (length store)) (foun
       (stretch-told (stretchAt table store row) (heldAt found row) (clockOf found) (max (clockOf found) (event + n .a)) (event +End endOf (n .b))
       (lengthOf (n .a) (endOf (n .b))) (latest-storable event (n .a) (n .b) early range))
 
-  pub other-stretch : (row : ℕ) → ¬ IsSince (numbersAt table row) → getD (found .counts) row 0 ≡ 0 → StretchRight table store found row
-  unfolding stretchAt packed wordsOf
-  other-stretch row other none =
+  pub other-stretch : (row : ℕ) → ¬ IsSince (numbersAt table row) → getD (found .counts) row 0 ≡ 0 → getD (found .firsts) row 0 ≡ 0
+      → StretchRight table store found row
+  unfolding stretchAt packed wordsOf roundFrom
+  other-stretch row other none start =
       let n = numbersAt table row in
       record {
         spans = [];
-        laid = record { written = rw (other-spans n other); counted = none };
+        laid =
+            record {
+              written = rw (other-spans n other, start);
+              counted = none;
+              unplaced = λ _. start;
+              inside = λ some. absurd (omega (arith, none));
+            };
         sound = none-sound (clockOf found) (max (clockOf found) (eventTime found + n .a)) (eventTime found +End endOf (n .b)) (lengthOf (n .a) (endOf (n .b)));
       }

@@ -111,6 +111,8 @@ pub record RecordRight (table store : List ℕ) (found : Record) : Type 0 where
       → row < rowLimit
       → IsSince (numbersAt table row)
       → getD (found .counts) row 0 ≤ figure (numbersAt table row .a) (endOf (numbersAt table row .b))
+  -- "0 where there is .. no stretch" (document 02, E9); of a stretch `Laid` says what its first place is.
+  pub unplaced : (row : ℕ) → row < rowLimit → ¬ IsSince (numbersAt table row) → getD (found .firsts) row 0 ≡ 0
   -- "if no event was seen, time, truths and span counts are 0 or false;" the time is the event's: "a record may then be sound with a clock and no event"
   pub unseen-time : wasSeen found ≡ false → eventTime found ≡ 0
   pub unseen-rows : wasSeen found ≡ false

@@ -71,7 +71,7 @@ pub record OneHeartbeat (setup : Setup) (store : List ℕ) (found : Record) (c :
   pub exact : (u : ℕ) → In u spans ↔ ((timeOf (clockOf found) c ≤ u) × In u (spansFound (setup .table) store found row))
   pub laid : LaysOut (setup .table) row (stepOf setup store found c .store) (stepOf setup store found c .left) spans
 
--- What it leaves of the record: the clock at its time, and all else but the span counts as found.
+-- What it leaves of the record: the clock at its time, and all else but the span counts and first places as found.
 pub record OnlyClockMoved (found left : Record) (time : ℕ) : Type 0 where
   pub clock : clockOf left ≡ time
   pub event : eventTime left ≡ eventTime found

@@ -15,6 +15,7 @@ use Rattle.promises.specs.Conditions.{RecordRight}
 pub record Sized (found : Record) : Type 0 where
   pub truths : length (found .truths) ≡ rowLimit
   pub counts : length (found .counts) ≡ rowLimit
+  pub firsts : length (found .firsts) ≡ rowLimit
 
 -- What a call leaves is sound, and has the sizes that it had, so that the same can be said of the next call.
 pub record StaysSound (setup : Setup) (store : List ℕ) (found : Record) (c : Call) : Type 0 where

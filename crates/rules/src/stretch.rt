@@ -9,7 +9,7 @@ ghost use Rattle.rules.specs.Stretches.{spansOf, width};
 use crate::numbers::Numbers;
 use kinds::stretch::Stretch;
 use kinds::table::line_of;
-use spans::stretch::SPAN_WORDS;
+use spans::ring::SPAN_WORDS;
 use times::interval::has_no_end;
 use times::interval::length_of;
 use times::time::wide;

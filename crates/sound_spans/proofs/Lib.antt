@@ -1,4 +1,4 @@
 -- Laws of sound stretches, for the functions here and for callers.
-pub mod SoundTold
 pub mod SoundSteps
+pub mod SoundTold
 pub mod StretchKept

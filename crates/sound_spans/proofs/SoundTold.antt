@@ -2,8 +2,8 @@
 use mathlib.Core.Bool.{true, false}
 use mathlib.Core.List.{List, [], _∷_}
 use mathlib.Core.Logic.{inl, inr, ⊎-elim}
-use mathlib.Core.Path.{_≡_, refl, ap, subst⁻¹}
-use Prim.Native.Nat.{ℕ, suc, _+_, _*_, _≤_, _<_}
+use mathlib.Core.Path.{_≡_, refl, ap, subst⁻¹, _∙_}
+use Prim.Native.Nat.{ℕ, suc, _+_, _-_, _*_, _≤_, _<_}
 use native.Mathlib.Omega.{arith}
 use lib.ListN.{length, getD, drop, replicate, length-drop}
 use Rattle.meaning.specs.Interval.{End, upTo, noEnd}
@@ -12,9 +12,11 @@ use Rattle.meaning.specs.Sound.{SoundFrom, SoundEndless, SoundSpans}
 use Rattle.meaning.proofs.SpansLaws.{le-or-lt}
 use Rattle.meaning.proofs.Tells.{Tells, tells-leb, tells-eqb, tells-and, tells-or, tells-same}
 use Rattle.spans.specs.declared.stretch.Held.{Held}
-use Rattle.spans.specs.Layout.{mark, endAt, spansHeld, Laid, zeros?}
+use Rattle.spans.specs.Layout.{mark, endAt, placesOf, roundFrom, spansHeld, Laid, zeros?}
 use Rattle.sound_spans.specs.StretchSound.{soundSpan?, soundFrom?, soundEndless?, soundSpans?, soundStretch?}
-use Rattle.spans.proofs.LayoutLaws.{Storable, Stored, plain-end, laid-read, laid-fits, laid-zeros, read-laid}
+use Rattle.spans.proofs.RoundLaws.{length-round}
+use Rattle.spans.proofs.LayoutLaws.{Storable, Stored, plain-end, laid-read, laid-inside, laid-zeros, read-laid}
+use Rattle.sound_spans.proofs.SoundSteps.{PlacedRight, placed-told, right-inside}
 
 always-told : {A : Type 0} → A → Tells true A
 always-told a = record { sound = λ _. a; complete = λ _. tt }
@@ -108,27 +110,33 @@ stretch-told words held now latestFirst latestLast long h =
     back
     (tells-and
     (spans-told now latestFirst latestLast long (spansHeld words held))
-    (tells-and (tells-leb (2 * held .count) (length words)) (zeros-told (drop (2 * held .count) words))))
+    (tells-and (placed-told (placesOf (length words)) held) (zeros-told (drop (2 * held .count) (roundFrom (held .first) words)))))
   where
+    rest : List ℕ
+    rest = drop (2 * held .count) (roundFrom (held .first) words)
+
+    size : length rest ≡ length words - 2 * held .count
+    size = length-drop (2 * held .count) (roundFrom (held .first) words) ∙ rw (length-round (held .first) words) refl
+
     Parts : Type 0
     Parts =
         SoundSpans now latestFirst latestLast long (spansHeld words held)
-        × ((2 * held .count ≤ length words) × (drop (2 * held .count) words ≡ replicate (length (drop (2 * held .count) words)) 0))
+        × (PlacedRight (placesOf (length words)) held × (rest ≡ replicate (length rest) 0))
 
     there : Parts → SoundStretch words held now latestFirst latestLast long
     there parts =
+        let right = parts .1 .0 in
         record {
           spans = spansHeld words held;
-          laid = read-laid words held (parts .1 .0) (rw (← length-drop (2 * held .count) words) (parts .1 .1));
+          laid = read-laid words held (right-inside words held right) (right .unplaced) (right .inside) (rw (← size) (parts .1 .1));
           sound = parts .0;
         }
 
     back : SoundStretch words held now latestFirst latestLast long → Parts
     back stretch =
         let S = stretch .spans in
-        let read : spansHeld words held ≡ S =
-        laid-read (stretch .laid) (sound-stored now latestFirst latestLast long S h (stretch .sound))
-        in (
+        let laid = stretch .laid in
+        let read : spansHeld words held ≡ S = laid-read laid (sound-stored now latestFirst latestLast long S h (stretch .sound)) in (
           rw read (stretch .sound),
-          (laid-fits (stretch .laid), rw (length-drop (2 * held .count) words) (laid-zeros (stretch .laid))),
+          (record { few = laid-inside laid .1; unplaced = laid .unplaced; inside = laid .inside }, rw size (laid-zeros laid)),
         )

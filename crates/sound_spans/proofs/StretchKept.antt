@@ -2,8 +2,7 @@
 use mathlib.Core.Bool.{Bool}
 use mathlib.Core.List.{List}
 use mathlib.Core.Path.{_≡_}
-use Prim.Native.Nat.{ℕ, _*_, _≤_}
-use native.Mathlib.Omega.{arith}
+use Prim.Native.Nat.{ℕ, _≤_}
 use lib.ListN.{length}
 use Rattle.meaning.specs.Interval.{End, _≤End_, _+End_}
 use Rattle.meaning.specs.Spans.{Span, Rising, reachedFrom, update}
@@ -15,10 +14,10 @@ use Rattle.spans.specs.Layout.{spansHeld, Packed}
 use Rattle.spans.proofs.LayoutLaws.{Storable, laid-read}
 use Rattle.sound_spans.proofs.SoundTold.{SoundStretch, sound-stored}
 
--- What an update at t leaves rises from t, and has room in words that have it for so many spans.
-pub record UpdateLeaves (t spans size : ℕ) (S : List Span) : Type 0 where
+-- What an update at t leaves rises from t, and is at most so many spans.
+pub record UpdateLeaves (t spans : ℕ) (S : List Span) : Type 0 where
   pub rises : Rising t S
-  pub room : 2 * spans ≤ size → 2 * length S ≤ size
+  pub room : length S ≤ spans
 
 -- A stretch with the limits a and b, sound at `now`, and an event at t.
 module _
@@ -39,10 +38,9 @@ module _
     held-sound = rw read (sound .sound)
 
     pub sound-ready : (keep feed : Bool) → a ≤End b → now ≤ t → event ≤ t
-        → UpdateLeaves t (figure a b) (length words) (update keep feed t (reachedFrom t a b) (spansHeld words held))
+        → UpdateLeaves t (figure a b) (update keep feed t (reachedFrom t a b) (spansHeld words held))
     sound-ready keep feed order present seen =
         record {
           rises = update-rises keep feed now t event a latestFirst b (spansHeld words held) order present seen held-sound;
-          room = λ size.
-              omega (arith, update-fits keep feed now t event a latestFirst b (spansHeld words held) order present seen held-sound);
+          room = update-fits keep feed now t event a latestFirst b (spansHeld words held) order present seen held-sound;
         }

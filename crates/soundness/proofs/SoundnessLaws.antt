@@ -1,15 +1,16 @@
 -- Laws of the soundness of a record: a test of every row, by rows, what the code's tests of a row tell, and which test decides.
-use mathlib.Core.Bool.{Bool, true, false, _&&_, _||_}
+use mathlib.Core.Bool.{Bool, true, false, _&&_, _||_, and-true, and-assoc}
 use mathlib.Core.List.{List, [], _∷_}
 use mathlib.Core.Logic.{⊎-elim}
 use mathlib.Core.Path.{_≡_, refl, _∙_}
-use Prim.Native.Nat.{ℕ, zero, suc, _+_, _-_, _≤_, _<_, max}
+use Prim.Native.Nat.{ℕ, zero, suc, _+_, _*_, _-_, _≤_, _<_, max}
 use native.Mathlib.Nat.{eq-or-lt-of-le, le-of-suc-le-suc}
 use native.Mathlib.Numerals.{add-one}
 use native.Mathlib.Omega.{arith}
 use lib.Bits.{bitAnd, bitOr, or-add-and, and-le-l, and-le-r}
 use lib.Dec.{leb, eqb}
 use lib.ListN.{length, getD, take, drop}
+use lib.Seq.{drop-nil, take-nil}
 use borrow.Author.Tests.{lt-ltb, le-ltb, leb-true, eqb-true, eqb-false, eq-eqb, ne-eqb}
 use Rattle.meaning.specs.Interval.{End, upTo, noEnd, endOf, _+End_}
 use Rattle.meaning.specs.Sound.{lengthOf}
@@ -19,7 +20,7 @@ use Rattle.rules.specs.Stretches.{spansOf, width, offset}
 use Rattle.rules.specs.declared.numbers.Numbers.{Numbers}
 use Rattle.meaning.proofs.Truths.{by-test, and-false, and-left, and-right, and-pairs}
 use Rattle.rules.proofs.StretchesLaws.{stretch-before}
-use Rattle.spans.specs.Layout.{spansFrom, zeros?}
+use Rattle.spans.specs.Layout.{placesOf, spansFrom, roundFrom, placed?, zeros?}
 use Rattle.sound_spans.specs.StretchSound.{soundFrom?, soundEndless?, soundSpans?, soundStretch?}
 use Rattle.soundness.specs.declared.record.Record.{Record}
 use Rattle.times.specs.Times.{timeLimit}
@@ -85,18 +86,24 @@ entry-within seen truth count numbers h =
     (and-right (truthByte? truth) (leb count (spansOf numbers))
     (and-left (truthByte? truth && leb count (spansOf numbers)) (seen || (eqb truth 0 && eqb count 0)) h))
 
--- A stretch of no words holds nothing, and so is sound.
+-- A stretch of no words holds nothing, and so is sound where the first place is 0.
 no-spans-sound : (now latestFirst long : ℕ) (latestLast : End) → soundSpans? now latestFirst latestLast long [] ≡ true
 unfolding soundSpans? soundFrom? soundEndless?
 no-spans-sound now latestFirst long (upTo last) = refl
 no-spans-sound now latestFirst long noEnd = refl
 
-pub bare-sound : (words : List ℕ) (count clock last : ℕ) (numbers : Numbers) → length words ≡ 0 → count ≡ 0
-    → soundLimits? words (heldOf count) clock last numbers ≡ true
-unfolding soundStretch? spansFrom zeros?
-bare-sound [] count clock last numbers size none =
-    rw (none, no-spans-sound clock (max clock (last + numbers .a)) (lengthOf (numbers .a) (endOf (numbers .b))) (last +End endOf (numbers .b)))
-bare-sound (word ∷ words) count clock last numbers size none = absurd (omega arith)
+pub bare-sound : (words : List ℕ) (first count clock last : ℕ) (numbers : Numbers) → length words ≡ 0 → count ≡ 0
+    → soundLimits? words (heldOf first count) clock last numbers ≡ eqb first 0
+unfolding soundStretch? spansFrom placesOf placed? zeros? roundFrom
+bare-sound [] first count clock last numbers size none =
+    rw (
+      none,
+      no-spans-sound clock (max clock (last + numbers .a)) (lengthOf (numbers .a) (endOf (numbers .b))) (last +End endOf (numbers .b)),
+      drop-nil (2 * first),
+      take-nil (2 * first),
+    )
+    (and-true (eqb first 0))
+bare-sound (word ∷ words) first count clock last numbers size none = absurd (omega arith)
 
 -- Where a row's stretch ends, and that it does so within the store.
 pub offset-next : (table : List ℕ) (row : ℕ) {numbers : Numbers} {from words : ℕ} → numbers ≡ numbersAt table row → from ≡ offset table row
@@ -116,10 +123,10 @@ stretch-fits table size rows row ready lower read place said =
     rw (place, said, read) (omega (arith, ready .room))
 
 -- The rows by a count that is the table's.
-pub rows-counted : (table store : List ℕ) (seen clock last count rows : ℕ) (truths counts : List ℕ) {answer : Bool} → count ≡ rows → rows ≡ rowsOf table
-    → answer ≡ every rows (soundRow? table store (recordOf seen clock last rows truths counts))
-    → every (rowsOf table) (soundRow? table store (recordOf seen clock last count truths counts)) ≡ answer
-rows-counted table store seen clock last count rows truths counts same counted told = rw (told, ← counted, same)
+pub rows-counted : (table store : List ℕ) (seen clock last count rows : ℕ) (truths counts firsts : List ℕ) {answer : Bool} → count ≡ rows → rows ≡ rowsOf table
+    → answer ≡ every rows (soundRow? table store (recordOf seen clock last rows truths counts firsts))
+    → every (rowsOf table) (soundRow? table store (recordOf seen clock last count truths counts firsts)) ≡ answer
+rows-counted table store seen clock last count rows truths counts firsts same counted told = rw (told, ← counted, same)
 
 -- Two numbers put together by their bits are 0 where both are.
 or-zero : (x y : ℕ) → eqb (bitOr x y) 0 ≡ (eqb x 0 && eqb y 0)
@@ -134,17 +141,26 @@ or-zero x y =
     (λ first. rw (some, first)))
 
 -- What stands past the rows of the table: nothing is asked of the rows themselves, and one entry more is put to the others.
-module _ (rows : ℕ) (truths counts : List ℕ) where
-  pub none-past : every rows (zeroPast? rows truths counts) ≡ true
+module _ (rows : ℕ) (truths counts firsts : List ℕ) where
+  pub none-past : every rows (zeroPast? rows truths counts firsts) ≡ true
   unfolding zeroPast?
-  none-past = every-all rows (zeroPast? rows truths counts) (λ row lower. rw (lt-ltb row rows lower))
+  none-past = every-all rows (zeroPast? rows truths counts firsts) (λ row lower. rw (lt-ltb row rows lower))
 
-  pub past-more : {row : ℕ} (truth count : ℕ) → rows ≤ row → (eqb truth 0 && eqb count 0) ≡ every row (zeroPast? rows truths counts)
-      → (eqb (bitOr truth (getD truths row 0)) 0 && eqb (bitOr count (getD counts row 0)) 0) ≡ every (row + 1) (zeroPast? rows truths counts)
+  pub past-more : {row : ℕ} (truth number : ℕ) → rows ≤ row → (eqb truth 0 && eqb number 0) ≡ every row (zeroPast? rows truths counts firsts)
+      → (eqb (bitOr truth (getD truths row 0)) 0 && eqb (bitOr (bitOr number (getD counts row 0)) (getD firsts row 0)) 0)
+      ≡ every (row + 1) (zeroPast? rows truths counts firsts)
   unfolding every zeroPast?
-  past-more {row} truth count past is =
-      rw (or-zero truth (getD truths row 0), or-zero count (getD counts row 0), add-one, le-ltb _ _ past, ← is)
-      (and-pairs (eqb truth 0) (eqb (getD truths row 0) 0) (eqb count 0) (eqb (getD counts row 0) 0))
+  past-more {row} truth number past is =
+      rw (
+        or-zero truth (getD truths row 0),
+        or-zero (bitOr number (getD counts row 0)) (getD firsts row 0),
+        or-zero number (getD counts row 0),
+        add-one,
+        le-ltb _ _ past,
+        ← is,
+        and-assoc (eqb number 0) (eqb (getD counts row 0) 0) (eqb (getD firsts row 0) 0),
+      )
+      (and-pairs (eqb truth 0) (eqb (getD truths row 0) 0) (eqb number 0) (eqb (getD counts row 0) 0 && eqb (getD firsts row 0) 0))
 
 -- What a sound record gives: its row count is the table's, its times are in order and within the limit, and every row is sound.
 pub record SoundParts (table store : List ℕ) (found : Record) : Type 0 where
@@ -166,7 +182,7 @@ sound-parts table store found h =
     let count : Bool = eqb (found .rows) (rowsOf table) in
     let timely : Bool = soundTimes? (found .seen) (clockOf found) (eventTime found) in
     let rows : Bool = every (rowsOf table) (soundRow? table store found) in
-    let past : Bool = every rowLimit (zeroPast? (rowsOf table) (found .truths) (found .counts)) in
+    let past : Bool = every rowLimit (zeroPast? (rowsOf table) (found .truths) (found .counts) (found .firsts)) in
     let three = and-left (count && timely && rows) past h in
     let two = and-left (count && timely) rows three in
     record {
@@ -192,6 +208,6 @@ module _ (table store : List ℕ) (found : Record) where
       unsound-row rows = rw (eq-eqb _ _ count, timely, rows)
 
       pub sound-by-past : every (rowsOf table) (soundRow? table store found) ≡ true
-          → every rowLimit (zeroPast? (found .rows) (found .truths) (found .counts)) ≡ sound? table store found
+          → every rowLimit (zeroPast? (found .rows) (found .truths) (found .counts) (found .firsts)) ≡ sound? table store found
       unfolding sound?
       sound-by-past rows = rw (eq-eqb _ _ count, timely, rows, count)

@@ -24,12 +24,12 @@ clockOf found = found .clock
 abbrev pub eventTime : Record → ℕ
 eventTime found = found .last
 
--- What is held of a row's stretch beside its words, by the span counts.
-abbrev pub heldIn : List ℕ → ℕ → Held
-heldIn counts row = record { count = getD counts row 0 }
+-- What is held of a row's stretch beside its words, by the span counts and "a first place per row" (document 02, E9).
+abbrev pub heldIn : (counts firsts : List ℕ) → ℕ → Held
+heldIn counts firsts row = record { first = getD firsts row 0; count = getD counts row 0 }
 
 abbrev pub heldAt : Record → ℕ → Held
-heldAt found row = heldIn (found .counts) row
+heldAt found row = heldIn (found .counts) (found .firsts) row
 
 -- A row's own stretch of the store, and the spans found in it.
 unfoldable pub stretchAt : List ℕ → List ℕ → ℕ → List ℕ
@@ -40,12 +40,21 @@ spansFound table store found row = spansHeld (stretchAt table store row) (heldAt
 
 -- A record with nothing seen and the clock at 0, of so many rows: what a good start gives. With 0 rows it is all zero.
 unfoldable pub nothingSeen : ℕ → Record
-nothingSeen rows = record { seen = 0; clock = 0; last = 0; rows = rows; truths = replicate rowLimit 0; counts = replicate rowLimit 0 }
+nothingSeen rows =
+    record {
+      seen = 0;
+      clock = 0;
+      last = 0;
+      rows = rows;
+      truths = replicate rowLimit 0;
+      counts = replicate rowLimit 0;
+      firsts = replicate rowLimit 0;
+    }
 
 -- What is held of a stretch, and a record, by their parts.
-abbrev pub heldOf : ℕ → Held
-heldOf count = record { count = count }
+abbrev pub heldOf : (first count : ℕ) → Held
+heldOf first count = record { first = first; count = count }
 
-abbrev pub recordOf : (seen clock last rows : ℕ) (truths counts : List ℕ) → Record
-recordOf seen clock last rows truths counts =
-    record { seen = seen; clock = clock; last = last; rows = rows; truths = truths; counts = counts }
+abbrev pub recordOf : (seen clock last rows : ℕ) (truths counts firsts : List ℕ) → Record
+recordOf seen clock last rows truths counts firsts =
+    record { seen = seen; clock = clock; last = last; rows = rows; truths = truths; counts = counts; firsts = firsts }

@@ -43,9 +43,10 @@ soundRow? table store found row =
     soundEntry? (wasSeen found) (getD (found .truths) row 0) (getD (found .counts) row 0) (numbersAt table row)
     && soundLimits? (stretchAt table store row) (heldAt found row) (clockOf found) (eventTime found) (numbersAt table row)
 
--- Past the table's rows "truths .. are false", and "span counts are 0".
-unfoldable pub zeroPast? : (rows : ℕ) (truths counts : List ℕ) → ℕ → Bool
-zeroPast? rows truths counts row = ltb row rows || (eqb (getD truths row 0) 0 && eqb (getD counts row 0) 0)
+-- Past the table's rows "truths .. are false", and "span counts are 0", and first places "where there is .. no stretch".
+unfoldable pub zeroPast? : (rows : ℕ) (truths counts firsts : List ℕ) → ℕ → Bool
+zeroPast? rows truths counts firsts row =
+    ltb row rows || (eqb (getD truths row 0) 0 && (eqb (getD counts row 0) 0 && eqb (getD firsts row 0) 0))
 
 -- "the event time is at most the clock, the clock within the time limit"; before any event its time is 0, and the clock any that is within.
 abbrev pub soundTimes? : (seen clock event : ℕ) → Bool
@@ -57,4 +58,4 @@ sound? table store found =
     eqb (found .rows) (rowsOf table)
     && soundTimes? (found .seen) (clockOf found) (eventTime found)
     && every (rowsOf table) (soundRow? table store found)
-    && every rowLimit (zeroPast? (rowsOf table) (found .truths) (found .counts))
+    && every rowLimit (zeroPast? (rowsOf table) (found .truths) (found .counts) (found .firsts))

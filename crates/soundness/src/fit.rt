@@ -20,9 +20,10 @@ pub fn fit(
     count: u32,
     truths: &[u8; ROW_LIMIT],
     counts: &[u32; ROW_LIMIT],
+    firsts: &[u32; ROW_LIMIT],
 ) -> Checked
     ensures { λ r. ⌜ Fits (setupOf (now (table .entry)) (now (list .entry))) (now (store .entry))
-        (recordOf seen clock last count (now (truths .entry)) (now (counts .entry))) r ⌝ }
+        (recordOf seen clock last count (now (truths .entry)) (now (counts .entry)) (now (firsts .entry))) r ⌝ }
 {
     let checked = ready(table, list, store.len());
     match checked {
@@ -38,6 +39,7 @@ pub fn fit(
                 count,
                 truths,
                 counts,
+                firsts,
             ) {
                 return Checked::Passed { rows, need };
             }

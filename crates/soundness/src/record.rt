@@ -14,9 +14,10 @@ pub struct Record {
     pub last: u64,
     // The table's row count.
     pub rows: u32,
-    // Each row's truth at the last event, and how many spans its stretch holds.
+    // Each row's truth at the last event, how many spans its stretch holds, and the place of the first of them.
     pub truths: [u8; ROW_LIMIT],
     pub counts: [u32; ROW_LIMIT],
+    pub firsts: [u32; ROW_LIMIT],
 }
 
 // A record with nothing seen, of so many rows; all zero where there are none.
@@ -30,5 +31,6 @@ pub fn nothing_seen(rows: u32) -> Record
         rows,
         truths: [0; ROW_LIMIT],
         counts: [0; ROW_LIMIT],
+        firsts: [0; ROW_LIMIT],
     }
 }

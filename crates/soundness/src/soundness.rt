@@ -7,8 +7,8 @@ use rules::numbers::numbers_at;
 use rules::stretch;
 use sound_spans::stretch::sound;
 use spans::reached::last_reached;
+use spans::ring::SPAN_WORDS;
 use spans::stretch::Held;
-use spans::stretch::SPAN_WORDS;
 use times::interval::length_of;
 use times::time::TIME_LIMIT;
 use times::time::later;
@@ -37,18 +37,29 @@ pub(crate) fn sound_record(
     count: u32,
     truths: &[u8; ROW_LIMIT],
     counts: &[u32; ROW_LIMIT],
+    firsts: &[u32; ROW_LIMIT],
 ) -> bool
     requires { ⌜ TableReady (now table) (length (now store)) ⌝ }
     requires { ⌜ rows ≡ rowsOf (now table) ⌝ }
     ensures { λ r. ⌜ r ≡ sound? (now (table .entry)) (now (store .entry))
-        (recordOf seen clock last count (now (truths .entry)) (now (counts .entry))) ⌝ }
+        (recordOf seen clock last count (now (truths .entry)) (now (counts .entry)) (now (firsts .entry))) ⌝ }
 {
     if count as usize != rows {
         return false;
     }
     if sound_times(seen, clock, last) {
-        if sound_rows(table, store, rows, seen, clock, last, truths, counts) {
-            return zero_past(count, truths, counts);
+        if sound_rows(
+            table,
+            store,
+            rows,
+            seen,
+            clock,
+            last,
+            truths,
+            counts,
+            firsts,
+        ) {
+            return zero_past(count, truths, counts, firsts);
         }
     }
     false
@@ -83,11 +94,12 @@ fn sound_rows(
     last: u64,
     truths: &[u8; ROW_LIMIT],
     counts: &[u32; ROW_LIMIT],
+    firsts: &[u32; ROW_LIMIT],
 ) -> bool
     requires { ⌜ TableReady (now table) (length (now store)) ⌝ }
     requires { ⌜ (rows ≡ rowsOf (now table)) × (last ≤ clock) × (clock ≤ timeLimit) ⌝ }
     ensures { λ r. ⌜ r ≡ every rows (soundRow? (now (table .entry)) (now (store .entry))
-        (recordOf seen clock last rows (now (truths .entry)) (now (counts .entry)))) ⌝ }
+        (recordOf seen clock last rows (now (truths .entry)) (now (counts .entry)) (now (firsts .entry)))) ⌝ }
 {
     let mut from = 0;
     let mut row = 0;
@@ -104,6 +116,7 @@ fn sound_rows(
             last,
             truths[row],
             counts[row],
+            firsts[row],
         ) {
             from = end;
             row += 1;
@@ -114,7 +127,7 @@ fn sound_rows(
     true
 }
 
-// One row: what the record says of it, and its stretch, which has no words where the row needs no spans.
+// One row: what the record says of it, and its stretch, which has no words where the row needs no spans; its first place is then 0.
 fn sound_row(
     words: &[u64],
     numbers: Numbers,
@@ -124,15 +137,16 @@ fn sound_row(
     last: u64,
     truth: u8,
     count: u32,
+    first: u32,
 ) -> bool
     requires { ⌜ (spans ≡ spansOf numbers) × (length (now words) ≡ width numbers) × (last ≤ clock) × (clock ≤ timeLimit) ⌝ }
-    ensures { λ r. ⌜ r ≡ (soundEntry? seen truth count numbers && soundLimits? (now (words .entry)) (heldOf count) clock last numbers) ⌝ }
+    ensures { λ r. ⌜ r ≡ (soundEntry? seen truth count numbers && soundLimits? (now (words .entry)) (heldOf first count) clock last numbers) ⌝ }
 {
     if sound_entry(spans, seen, truth, count) {
         if spans == 0 {
-            return true;
+            return first == 0;
         }
-        return sound_stretch(words, count, clock, last, numbers);
+        return sound_stretch(words, first, count, clock, last, numbers);
     }
     false
 }
@@ -158,11 +172,19 @@ fn sound_entry(spans: u64, seen: bool, truth: u8, count: u32) -> bool
 
 // One stretch, by the limits of its row: firsts from the clock on; the latest first, where b has no end, is the clock or later by the last event's time,
 // and by that goes the latest last.
-fn sound_stretch(words: &[u64], count: u32, clock: u64, last: u64, numbers: Numbers) -> bool
+fn sound_stretch(
+    words: &[u64],
+    first: u32,
+    count: u32,
+    clock: u64,
+    last: u64,
+    numbers: Numbers,
+) -> bool
     requires { ⌜ (last ≤ clock) × (clock ≤ timeLimit) ⌝ }
-    ensures { λ r. ⌜ r ≡ soundLimits? (now (words .entry)) (heldOf count) clock last numbers ⌝ }
+    ensures { λ r. ⌜ r ≡ soundLimits? (now (words .entry)) (heldOf first count) clock last numbers ⌝ }
 {
     let held = Held {
+        first: first as usize,
         count: count as usize,
     };
     let latest_first = later(clock, last + wide(numbers.a));
@@ -177,22 +199,27 @@ fn sound_stretch(words: &[u64], count: u32, clock: u64, last: u64, numbers: Numb
     )
 }
 
-// Past the table's rows every truth is false and every span count 0. Of a short table this is much of what a call costs, so all entries are put together
-// before they are looked at, and counted in 32 bits, as a small processor counts.
-fn zero_past(rows: u32, truths: &[u8; ROW_LIMIT], counts: &[u32; ROW_LIMIT]) -> bool
+// Past the table's rows every truth is false, and every span count and first place 0. Of a short table this is much of what a call costs, so all entries
+// are put together before they are looked at, and counted in 32 bits, as a small processor counts.
+fn zero_past(
+    rows: u32,
+    truths: &[u8; ROW_LIMIT],
+    counts: &[u32; ROW_LIMIT],
+    firsts: &[u32; ROW_LIMIT],
+) -> bool
     requires { ⌜ rows ≤ rowLimit ⌝ }
-    ensures { λ r. ⌜ r ≡ every rowLimit (zeroPast? rows (now (truths .entry)) (now (counts .entry))) ⌝ }
+    ensures { λ r. ⌜ r ≡ every rowLimit (zeroPast? rows (now (truths .entry)) (now (counts .entry)) (now (firsts .entry))) ⌝ }
 {
     let mut truth_bits = 0;
-    let mut count_bits = 0;
+    let mut number_bits = 0;
     let mut row = rows;
     while (row as usize) < ROW_LIMIT {
         truth_bits = truth_bits | truths[row as usize];
-        count_bits = count_bits | counts[row as usize];
+        number_bits = number_bits | counts[row as usize] | firsts[row as usize];
         row += 1;
     }
     if truth_bits == 0 {
-        return count_bits == 0;
+        return number_bits == 0;
     }
     false
 }

@@ -1,18 +1,19 @@
--- Laws of dropping and clipping: `clip` is to count the ended spans, to move the words after theirs down, and to raise the first word that is left.
+-- Laws of dropping and clipping: `clip` is to count the ended spans, to free their places, to go on past them, and to raise the first word that is left.
 use mathlib.Core.Bool.{Bool, true, false, cond}
-use mathlib.Core.List.{List, [], _∷_, _++_}
+use mathlib.Core.List.{List, [], _∷_, _++_, append-assoc}
 use mathlib.Core.Path.{_≡_, refl, sym, ap, _∙_}
 use Prim.Native.Nat.{ℕ, zero, suc, _+_, _*_, _-_, _≤_, _<_, max}
 use native.Mathlib.Omega.{arith}
-use borrow.Author.Tests.{ne-eqb, lt-ltb, le-ltb}
+use borrow.Author.Tests.{ne-eqb, eqb-true, eqb-false, lt-ltb, le-ltb}
 use lib.Dec.{eqb}
-use lib.ListN.{length, getD, take, drop, set, replicate, length-drop, length-replicate}
-use lib.Seq.{drop-append-le, take-at}
+use lib.ListN.{length, getD, drop, set, replicate, length-append, length-drop, length-replicate}
+use lib.Seq.{drop-append-le, take-append-le, drop-at}
 use Rattle.meaning.specs.Spans.{Span, _to_, ended, clip}
 use Rattle.spans.specs.declared.stretch.Held.{Held}
-use Rattle.spans.specs.Layout.{mark, spansFrom, spansHeld, wordsOf, spansOver, freed}
-use Rattle.spans.specs.Stretch.{endedCount, spansIn, SpansWritten, ClippedTo}
-use Rattle.spans.proofs.LayoutLaws.{Stored, ended-word, spans-next, spans-none, length-words, held-written, drop-zeros}
+use Rattle.spans.specs.Layout.{mark, placesOf, placeAt, spansFrom, roundFrom, spansHeld, wordsOf, spansOver, freed, freedFrom}
+use Rattle.spans.specs.Stretch.{endedCount, firstLeft, Inside, SpansWritten, SpansKept}
+use Rattle.spans.proofs.RoundLaws.{places-fit, places-whole, place-inside, length-round, round-laid, length-laid, round-get, round-set, round-on}
+use Rattle.spans.proofs.LayoutLaws.{Stored, ended-word, spans-next, spans-none, length-words, held-written, length-freed, drop-zeros, take-zeros}
 
 unfoldable clipFirst : ℕ → List Span → List Span
 clipFirst time [] = []
@@ -85,81 +86,189 @@ words-drop (suc k) ((first to last) ∷ S) =
     let e : 2 * suc k ≡ suc (suc (2 * k)) = omega arith in
     rw e (words-drop k S)
 
-later-words : (k : ℕ) (S : List Span) (rest : List ℕ) → k ≤ length S
-    → take (2 * length S - 2 * k) (drop (2 * k) (wordsOf S ++ rest)) ≡ wordsOf (drop k S)
-later-words k S rest h =
+-- The words after those of the first k spans are those of the others, and what stands after all.
+words-left : (words : List ℕ) (k : ℕ) (S : List Span) → k ≤ length S
+    → drop (2 * k) (spansOver words S) ≡ wordsOf (drop k S) ++ drop (2 * length S) words
+unfolding spansOver
+words-left words k S h =
     let within : 2 * k ≤ length (wordsOf S) = rw length-words (omega arith) in
-    let left : length (wordsOf (drop k S)) ≡ 2 * length S - 2 * k = rw (length-words, length-drop) (omega arith) in
-    rw (drop-append-le (2 * k) (wordsOf S) rest within, words-drop k S) (take-at (wordsOf (drop k S)) rest _ left)
+    rw (drop-append-le (2 * k) (wordsOf S) (drop (2 * length S) words) within, words-drop k S) refl
 
--- Later spans move down, and freed words become 0.
-moved-over : (k : ℕ) (S : List Span) (rest : List ℕ) → k ≤ length S
-    → wordsOf (drop k S) ++ (replicate (2 * k) 0 ++ rest) ≡ spansOver (replicate (2 * length S) 0 ++ rest) (drop k S)
+-- Freed words, read from as many places on.
+round-freed : (k n : ℕ) (words : List ℕ) → k ≤ n → 2 * n ≤ length words
+    → roundFrom k (freed n words) ≡ replicate (2 * n - 2 * k) 0 ++ (drop (2 * n) words ++ replicate (2 * k) 0)
+unfolding roundFrom
+round-freed k n words h fits =
+    let within : 2 * k ≤ length (replicate {A = ℕ} (2 * n) 0) = rw length-replicate (omega arith) in
+    rw (
+      drop-append-le (2 * k) (replicate (2 * n) 0) (drop (2 * n) words) within,
+      take-append-le (2 * k) (replicate (2 * n) 0) (drop (2 * n) words) within,
+      drop-zeros (2 * k) (2 * n) (omega arith),
+      take-zeros (2 * k) (2 * n) (omega arith),
+    )
+    (simp append-assoc)
+
+round-first-freed : (k : ℕ) (words : List ℕ) → 2 * k ≤ length words → roundFrom k (freed k words) ≡ drop (2 * k) words ++ replicate (2 * k) 0
+round-first-freed k words fits =
+    let none : 2 * k - 2 * k ≡ 0 = omega arith in
+    round-freed k k words (omega arith) fits ∙ rw none refl
+
+raised-over : (words : List ℕ) (time : ℕ) (S : List Span) → 0 < length S
+    → set (wordsOf S ++ words) 0 (max time (getD (wordsOf S ++ words) 0 0)) ≡ wordsOf (clipFirst time S) ++ words
+unfolding wordsOf clipFirst
+raised-over words time [] none = absurd (omega arith)
+raised-over words time ((first to last) ∷ S) some = refl
+
+-- What is read after the first `gone` spans of S are freed, from as many places on, with its first word raised: the spans that are clipped, over the words
+-- of which all spans are freed.
+raised-left : (words : List ℕ) (time gone : ℕ) (S : List Span)
+    → 2 * length S ≤ length words
+    → words ≡ spansOver words S
+    → gone ≡ endedCount time S
+    → gone < length S
+    → (let left = roundFrom gone (freed gone words) in
+    set left 0 (max time (getD left 0 0)) ≡ spansOver (roundFrom gone (freed (length S) words)) (clip time S))
 unfolding spansOver
-moved-over k S rest h =
-    let left : 2 * length (drop k S) ≡ 2 * length S - 2 * k = rw length-drop (omega arith) in
-    let free : 2 * length S - (2 * length S - 2 * k) ≡ 2 * k = omega arith in
-    let within : 2 * length S - 2 * k ≤ length (replicate {A = ℕ} (2 * length S) 0) = rw length-replicate (omega arith) in
-    rw (left, drop-append-le _ (replicate (2 * length S) 0) rest within, drop-zeros (2 * length S - 2 * k) (2 * length S) (omega arith), free) refl
-
-raised-over : (words : List ℕ) (time : ℕ) (S : List Span)
-    → cond (eqb (length S) 0) (spansOver words S) (set (spansOver words S) 0 (max time (getD (spansOver words S) 0 0))) ≡ spansOver words (clipFirst time S)
-unfolding spansOver wordsOf clipFirst
-raised-over words time [] = refl
-raised-over words time ((first to last) ∷ S) =
-    let some : eqb (suc (length S)) 0 ≡ false = ne-eqb (suc (length S)) 0 (omega arith) in
-    rw some refl
-
--- The spans that are left when `gone` of them, which are the ended ones, moved out and the first was raised.
-pub clip-written : (words : List ℕ) (held : Held) (time gone : ℕ) (moved : List ℕ)
-    → 2 * held .count ≤ length words
-    → gone ≡ endedCount time (spansHeld words held)
-    → moved ≡ take (2 * held .count - 2 * gone) (drop (2 * gone) words) ++ (replicate (2 * gone) 0 ++ drop (2 * held .count) words)
-    → SpansWritten
-    (freed (held .count) words)
-    (cond (eqb (held .count - gone) 0) moved (set moved 0 (max time (getD moved 0 0))))
-    (record { count = held .count - gone })
-    (clip time (spansHeld words held))
-unfolding spansOver
-clip-written words held time gone moved room many move =
-    let S : List Span = spansHeld words held in
-    let read : SpansWritten words words held S = held-written words held room in
-    let h : gone ≤ length S = rw many (ended-le time S) in
-    let count : held .count ≡ length S = read .counted in
-    let left : held .count - gone ≡ length (drop gone S) = ap (λ (n : ℕ). n - gone) count ∙ sym (length-drop gone S) in
-    let later : take (2 * held .count - 2 * gone) (drop (2 * gone) words) ≡ wordsOf (drop gone S) =
-    ap (λ (l : List ℕ). take (2 * held .count - 2 * gone) (drop (2 * gone) l)) (read .written)
-    ∙ ap (λ (n : ℕ). take (2 * n - 2 * gone) (drop (2 * gone) (spansOver words S))) count
-    ∙ later-words gone S (drop (2 * length S) words) h
+raised-left words time gone S room read many some =
+    let rest : List ℕ = drop (2 * length S) words ++ replicate (2 * gone) 0 in
+    let later : drop (2 * gone) words ≡ wordsOf (drop gone S) ++ drop (2 * length S) words =
+    ap (λ (l : List ℕ). drop (2 * gone) l) read ∙ words-left words gone S (omega arith)
     in
-    let down : moved ≡ spansOver (freed (held .count) words) (drop gone S) =
-    move
-    ∙ ap (λ (l : List ℕ). l ++ (replicate (2 * gone) 0 ++ drop (2 * held .count) words)) later
-    ∙ moved-over gone S (drop (2 * held .count) words) h
-    ∙ ap (λ (n : ℕ). spansOver (replicate (2 * n) 0 ++ drop (2 * held .count) words) (drop gone S)) (sym count)
+    let left : roundFrom gone (freed gone words) ≡ wordsOf (drop gone S) ++ rest =
+    round-first-freed gone words (omega arith) ∙ rw later (append-assoc (wordsOf (drop gone S)) (drop (2 * length S) words) (replicate (2 * gone) 0))
+    in
+    let over : roundFrom gone (freed (length S) words) ≡ replicate (2 * length S - 2 * gone) 0 ++ rest =
+    round-freed gone (length S) words (omega arith) room
     in
     let parts : clip time S ≡ clipFirst time (drop gone S) = rw many (clip-parts time S) in
-    record {
-      written = rw (left, down, parts) (raised-over (freed (held .count) words) time (drop gone S));
-      counted = rw (left, parts) (first-length time (drop gone S));
-    }
+    let some-left : 0 < length (drop gone S) = rw length-drop (omega arith) in
+    let size : 2 * length (clip time S) ≡ 2 * length S - 2 * gone =
+    rw (parts, ← first-length time (drop gone S), length-drop) (omega arith)
+    in
+    rw (left, over, size, drop-at (replicate (2 * length S - 2 * gone) 0) rest _ (length-replicate (2 * length S - 2 * gone) 0), parts)
+    (raised-over rest time (drop gone S) some-left)
 
--- All spans drop out: their words are freed.
-pub clear-written : (count : ℕ) (words : List ℕ) → freed count words ≡ spansOver (freed count words) []
-unfolding spansOver wordsOf
-clear-written count words =
-    let none : 2 * length {A = Span} [] ≡ 0 = omega arith in
-    rw none refl
+none-of : (S : List Span) → length S ≡ 0 → S ≡ []
+none-of [] e = refl
+none-of (p ∷ S) e = absurd (omega arith)
 
--- Clipping what has room is clipping what was found.
-pub clipped-found : (words : List ℕ) (held found : Held) (time : ℕ) {after : List ℕ} {left : Held}
-    → 2 * found .count ≤ length words
-    → spansHeld words found ≡ spansIn words held
-    → SpansWritten (freed (found .count) words) after left (clip time (spansHeld words found))
-    → ClippedTo words held after left time
-clipped-found words held found time room same done =
-    let count : found .count ≡ length (spansIn words held) = held-written words found room .counted ∙ ap length same in
-    record {
-      written = done .written ∙ rw (← count, ← same);
-      counted = done .counted ∙ rw same;
-    }
+-- Words of which the first spans are freed, in a ring.
+module _ (words : List ℕ) (held : Held) (inside : Inside words held) where
+  abbrev p : ℕ
+  p = placesOf (length words)
+
+  abbrev T : List ℕ
+  T = roundFrom (held .first) words
+
+  room : 2 * held .count ≤ length T
+  room = rw (length-round (held .first) words) (omega (arith, inside .1, places-fit (length words)))
+
+  first-fits : (count : ℕ) → 2 * held .first ≤ length (freed count T)
+  first-fits count = rw (length-append, length-replicate, length-drop, length-round (held .first) words) (omega (arith, inside .0, places-fit (length words)))
+
+  -- They are read so.
+  pub read-freed : (count : ℕ) → roundFrom (held .first) (freedFrom (held .first) count words) ≡ freed count T
+  read-freed count = round-laid (held .first) (freed count T) (first-fits count)
+
+  pub length-freed-from : (count : ℕ) → count ≤ p → length (freedFrom (held .first) count words) ≡ length words
+  length-freed-from count few =
+      length-laid (held .first) (freed count T)
+      ∙ length-freed count T (rw (length-round (held .first) words) (omega (arith, places-fit (length words))))
+      ∙ length-round (held .first) words
+
+  -- All spans drop out: their words are freed.
+  pub all-dropped : (left : Held) → left .count ≡ 0 → left .first ≡ 0
+      → SpansKept words held (freedFrom (held .first) (held .count) words) left []
+  unfolding spansOver wordsOf firstLeft
+  all-dropped left none placed =
+      let start : 2 * length {A = Span} [] ≡ 0 = omega arith in
+      record {
+        spans = record { written = rw start refl; counted = none };
+        placed = placed;
+      }
+
+  -- Those that ended drop out, and the first that is left begins at the time.
+  pub clip-written : (time gone : ℕ) (left : Held)
+      → gone ≡ endedCount time (spansHeld words held)
+      → left .first ≡ firstLeft p held (held .count - gone)
+      → left .count ≡ held .count - gone
+      → SpansKept
+      words
+      held
+      (cond (eqb (left .count) 0) (freedFrom (held .first) gone words)
+      (set (freedFrom (held .first) gone words) (2 * placeAt p (left .first) 0)
+      (max time (getD (freedFrom (held .first) gone words) (2 * placeAt p (left .first) 0) 0))))
+      left
+      (clip time (spansHeld words held))
+  unfolding firstLeft
+  clip-written time gone left many placed counted = go (eqb (left .count) 0) refl
+    where
+      S : List Span
+      S = spansHeld words held
+
+      read : SpansWritten words words held S
+      read = held-written words held inside
+
+      few : gone ≤ length S
+      few = rw many (ended-le time S)
+
+      shorter : length (clip time S) ≡ held .count - gone
+      shorter =
+          ap length (clip-parts time S)
+          ∙ sym (first-length time (drop (endedCount time S) S))
+          ∙ length-drop (endedCount time S) S
+          ∙ rw (← many, ← (read .counted)) refl
+
+      after : Bool → List ℕ
+      after none =
+          cond none (freedFrom (held .first) gone words)
+          (set (freedFrom (held .first) gone words) (2 * placeAt p (left .first) 0)
+          (max time (getD (freedFrom (held .first) gone words) (2 * placeAt p (left .first) 0) 0)))
+
+      go : (b : Bool) → eqb (left .count) 0 ≡ b → SpansKept words held (after (eqb (left .count) 0)) left (clip time S)
+      go true e =
+          let none : left .count ≡ 0 = eqb-true (left .count) 0 e in
+          let all : gone ≡ held .count = omega (arith, counted, few, read .counted) in
+          let empty : clip time S ≡ [] = none-of (clip time S) (omega (arith, shorter, counted)) in
+          rw (e, all, empty) (all-dropped left none (placed ∙ rw (← counted, none) refl))
+      go false e =
+          let some : ¬ (left .count ≡ 0) = eqb-false (left .count) 0 e in
+          let few-gone : gone < length S = omega (arith, counted, some, read .counted) in
+          let known : gone < p = omega (arith, read .counted, inside .1) in
+          let whole : 2 * p ≡ length words = places-whole (length words) (omega arith) in
+          let F : List ℕ = freedFrom (held .first) gone words in
+          let whole-freed : 2 * p ≡ length F = whole ∙ sym (length-freed-from gone (omega arith)) in
+          let whole-dropped : 2 * p ≡ length (freedFrom (held .first) (held .count) words) =
+          whole ∙ sym (length-freed-from (held .count) (inside .1))
+          in
+          let left-some : ¬ (held .count - gone ≡ 0) = rw counted at some in
+          let went-on : left .first ≡ placeAt p (held .first) gone =
+          placed
+          ∙ rw (ne-eqb (held .count - gone) 0 left-some, back) refl
+          in
+          let first-in : left .first ≤ p = omega (arith, went-on, place-inside p (held .first) gone (inside .0) known) in
+          let on-freed : roundFrom (left .first) F ≡ roundFrom gone (freed gone T) =
+          rw went-on (round-on F p (held .first) gone whole-freed (inside .0) known) ∙ ap (roundFrom gone) (read-freed gone)
+          in
+          let on-dropped : roundFrom (left .first) (freedFrom (held .first) (held .count) words) ≡ roundFrom gone (freed (length S) T) =
+          rw went-on (round-on (freedFrom (held .first) (held .count) words) p (held .first) gone whole-dropped (inside .0) known)
+          ∙ ap (roundFrom gone) (read-freed (held .count))
+          ∙ ap (λ (n : ℕ). roundFrom gone (freed n T)) (read .counted)
+          in
+          let raised : roundFrom (left .first) (after false) ≡ spansOver (roundFrom (left .first) (freedFrom (held .first) (held .count) words)) (clip time S) =
+          round-set F p (left .first) 0 whole-freed first-in (omega arith) 0 _ {j = 0} (omega arith) (omega arith) (omega arith)
+          ∙ rw (
+            ← round-get F p (left .first) 0 whole-freed first-in (omega arith) 0 {j = 0} {n = 2 * placeAt p (left .first) 0} (omega arith) (omega arith) (omega arith),
+            on-freed,
+            on-dropped,
+          )
+          (raised-left T time gone S (rw (← (read .counted)) room) (read .written) many few-gone)
+          in
+          rw e
+          (record {
+            spans = record { written = raised; counted = counted ∙ sym shorter };
+            placed = placed ∙ rw (← shorter) refl;
+          })
+        where
+          back : held .count - (held .count - gone) ≡ gone
+          back = omega (arith, few, read .counted)

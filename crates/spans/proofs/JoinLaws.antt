@@ -2,18 +2,17 @@
 use mathlib.Core.Bool.{Bool, true, false}
 use mathlib.Core.List.{List, [], _∷_, _++_}
 use mathlib.Core.Path.{_≡_, refl, sym, ap, _∙_}
-use Prim.Native.Nat.{ℕ, suc, _+_, _*_, _-_, _/_, _≤_, _<_}
+use Prim.Native.Nat.{ℕ, suc, _+_, _*_, _-_, _≤_, _<_}
 use native.Mathlib.Omega.{arith}
 use borrow.Author.Tests.{le-leb, lt-leb}
 use lib.Dec.{leb}
-use lib.ListN.{length, getD, drop, set, length-append}
-use lib.Seq.{drop-cons, take-at}
+use lib.ListN.{length, getD, take, drop, set, length-append}
+use lib.Seq.{drop-cons, take-all, take-at}
 use Rattle.meaning.specs.Interval.{End, upTo, noEnd}
 use Rattle.meaning.specs.Spans.{Span, _to_, touches, join}
-use Rattle.spans.specs.declared.stretch.Held.{Held}
-use Rattle.spans.specs.Layout.{mark, wordOf, endAt, wordsOf, fitting, spansOver}
-use Rattle.spans.specs.Stretch.{SpansWritten}
-use Rattle.spans.proofs.LayoutLaws.{Stored, end-cases, word-back, fitting-all}
+use Rattle.spans.specs.Layout.{mark, wordOf, endAt, wordsOf, spansOver}
+use Rattle.spans.specs.Stretch.{Overwrites}
+use Rattle.spans.proofs.LayoutLaws.{Stored, end-cases, word-back}
 
 -- A span that begins at next meets one with that end.
 abbrev meets : End → ℕ → Bool
@@ -97,42 +96,43 @@ last-meets p S next stored h =
     ap (λ (e : End). meets e next) (sym (last-stored p S stored)) ∙ meets-word next (wordOf (lastEnd p S)) h
 
 -- The word that is read before a join is the last word of the last span.
-read-last : {before words : List ℕ} {held : Held} {p : Span} {S : List Span} → SpansWritten before words held (p ∷ S)
-    → getD words (2 * held .count - 1) 0 ≡ wordOf (lastEnd p S)
+read-last : {before words : List ℕ} {count : ℕ} {p : Span} {S : List Span} → Overwrites before words count (p ∷ S)
+    → getD words (2 * (count - 1) + 1) 0 ≡ wordOf (lastEnd p S)
 unfolding spansOver
 read-last {p = p} {S = S} read =
-    let e : 2 * suc (length S) - 1 ≡ 2 * length S + 1 = omega arith in
+    let e : suc (length S) - 1 ≡ length S = omega arith in
     rw (read .written, read .counted, e) (last-word p S _)
 
 -- A span that begins two or more past that word follows those held, also where none is held.
-pub follows : {before words : List ℕ} {held : Held} {S : List Span} (first : ℕ) (end : End)
-    → SpansWritten before words held S
+pub follows : {before words : List ℕ} {count : ℕ} {S : List Span} (first : ℕ) (end : End)
+    → Overwrites before words count S
     → Stored S
     → first ≤ mark
-    → (¬ (held .count ≡ 0) → getD words (2 * held .count - 1) 0 + 2 ≤ first)
+    → (¬ (count ≡ 0) → getD words (2 * (count - 1) + 1) 0 + 2 ≤ first)
     → join (first to end) S ≡ S ++ ((first to end) ∷ [])
 unfolding join
 follows {S = []} first end read stored h apart = refl
-follows {held = held} {S = p ∷ S} first end read stored h apart =
-    let c : held .count ≡ suc (length S) = read .counted in
+follows {count = count} {S = p ∷ S} first end read stored h apart =
+    let c : count ≡ suc (length S) = read .counted in
     let e : wordOf (lastEnd p S) + 2 ≤ first = rw (read-last read) at (apart (omega arith)) in
     join-after p S first end (last-meets p S first stored h ∙ lt-leb first (wordOf (lastEnd p S) + 1) (omega arith))
 
--- It takes the two words after theirs, if there are two; otherwise it is left out.
-pub append-written : {before words : List ℕ} {held : Held} {S : List Span} (first last : ℕ)
-    → SpansWritten before words held S
-    → 2 * (held .count + 1) ≤ length before
-    → SpansWritten
+-- It takes the two words after theirs, if there is a place; otherwise it is left out.
+pub append-written : {before words : List ℕ} {count : ℕ} {S : List Span} (room first last : ℕ)
+    → Overwrites before words count S
+    → count < room
+    → 2 * room ≤ length before
+    → Overwrites
     before
-    (set (set words (2 * held .count) first) (2 * held .count + 1) last)
-    (record { count = held .count + 1 })
-    (fitting before (S ++ ((first to endAt last) ∷ [])))
+    (set (set words (2 * count) first) (2 * count + 1) last)
+    (count + 1)
+    (take room (S ++ ((first to endAt last) ∷ [])))
 unfolding spansOver
-append-written {before} {words} {held} {S} first last read room =
+append-written {before} {words} {count} {S} room first last read known fits =
     let s : Span = first to endAt last in
-    let count : held .count ≡ length S = read .counted in
+    let many : count ≡ length S = read .counted in
     let more : length (S ++ (s ∷ [])) ≡ length S + 1 = length-append S (s ∷ []) in
-    let all : fitting before (S ++ (s ∷ [])) ≡ S ++ (s ∷ []) = fitting-all before (S ++ (s ∷ [])) (omega arith) in
+    let all : take room (S ++ (s ∷ [])) ≡ S ++ (s ∷ []) = take-all room (S ++ (s ∷ [])) (omega arith) in
     let place : 2 * (length S + 1) ≡ suc (suc (2 * length S)) = omega arith in
     let a : ℕ = getD before (2 * length S) 0 in
     let b : ℕ = getD before (suc (2 * length S)) 0 in
@@ -143,39 +143,38 @@ append-written {before} {words} {held} {S} first last read room =
     record {
       written =
           rw
-          (all, read .written, count, free, more, place, words-after S first (endAt last), word-back last)
+          (all, read .written, many, free, more, place, words-after S first (endAt last), word-back last)
           (written-after S a b first last (drop (suc (suc (2 * length S))) before));
-      counted = rw (all, more, count) refl;
+      counted = rw (all, more, many) refl;
     }
 
-pub left-out : {before words : List ℕ} {held : Held} {S : List Span} (s : Span)
-    → SpansWritten before words held S
-    → 2 * held .count ≤ length before
-    → length before / 2 ≤ held .count
-    → SpansWritten before words held (fitting before (S ++ (s ∷ [])))
-left-out {before} {words} {held} {S} s read room full =
-    let count : held .count ≡ length S = read .counted in
-    rw (take-at S (s ∷ []) (length before / 2) (omega arith)) read
+pub left-out : {before words : List ℕ} {count : ℕ} {S : List Span} (room : ℕ) (s : Span)
+    → Overwrites before words count S
+    → count ≡ room
+    → Overwrites before words count (take room (S ++ (s ∷ [])))
+left-out {count = count} {S = S} room s read full =
+    let many : count ≡ length S = read .counted in
+    rw (take-at S (s ∷ []) room (omega arith)) read
 
 -- Any other extends the last one.
-pub extend-written : {before words : List ℕ} {held : Held} {S : List Span} (first last : ℕ)
-    → SpansWritten before words held S
+pub extend-written : {before words : List ℕ} {count : ℕ} {S : List Span} (room first last : ℕ)
+    → Overwrites before words count S
     → Stored S
     → first ≤ mark
-    → 2 * held .count ≤ length before
-    → ¬ (held .count ≡ 0)
-    → first < getD words (2 * held .count - 1) 0 + 2
-    → SpansWritten before (set words (2 * held .count - 1) last) held (fitting before (join (first to endAt last) S))
+    → count ≤ room
+    → ¬ (count ≡ 0)
+    → first < getD words (2 * (count - 1) + 1) 0 + 2
+    → Overwrites before (set words (2 * (count - 1) + 1) last) count (take room (join (first to endAt last) S))
 unfolding spansOver
-extend-written {S = []} first last read stored h room some near = absurd (some (read .counted))
-extend-written {before = before} {held = held} {S = p ∷ S} first last read stored h room some near =
+extend-written {S = []} room first last read stored h known some near = absurd (some (read .counted))
+extend-written {before = before} {count = count} {S = p ∷ S} room first last read stored h known some near =
     let e : first < wordOf (lastEnd p S) + 2 = rw (read-last read) at near in
     let m : meets (lastEnd p S) first ≡ true = last-meets p S first stored h ∙ le-leb first (wordOf (lastEnd p S) + 1) (omega arith) in
     let n : length (join (first to endAt last) (p ∷ S)) ≡ suc (length S) = join-length p S first (endAt last) m in
-    let count : held .count ≡ suc (length S) = read .counted in
-    let all : fitting before (join (first to endAt last) (p ∷ S)) ≡ join (first to endAt last) (p ∷ S) = fitting-all before _ (omega arith) in
-    let i : 2 * suc (length S) - 1 ≡ 2 * length S + 1 = omega arith in
+    let many : count ≡ suc (length S) = read .counted in
+    let all : take room (join (first to endAt last) (p ∷ S)) ≡ join (first to endAt last) (p ∷ S) = take-all room _ (omega arith) in
+    let i : suc (length S) - 1 ≡ length S = omega arith in
     record {
-      written = rw (all, n, read .written, count, i, ← join-words p S first (endAt last) _ m, word-back last) refl;
-      counted = rw all (count ∙ sym n);
+      written = rw (all, n, read .written, many, i, ← join-words p S first (endAt last) _ m, word-back last) refl;
+      counted = rw all (many ∙ sym n);
     }

@@ -1,20 +1,36 @@
--- Laws of the layout: what was packed is read back, zeros come after it, and what a word says of an end is told by comparing words.
+-- Laws of the layout: what was laid out is read back, zeros come after it, and what a word says of an end is told by comparing words.
 use mathlib.Core.Bool.{Bool, true, false}
 use mathlib.Core.List.{List, [], _∷_, _++_}
 use mathlib.Core.Path.{_≡_, refl, sym, ap, _∙_}
-use Prim.Native.Nat.{ℕ, zero, suc, _+_, _*_, _-_, _/_, _≤_, _<_}
+use Prim.Native.Nat.{ℕ, zero, suc, _+_, _*_, _-_, _≤_, _<_}
 use native.Mathlib.Numerals.{add-one}
 use native.Mathlib.Omega.{arith}
 use borrow.Author.Tests.{eqb-true, eqb-false, le-ltb, le-leb}
 use lib.Dec.{eqb, ltb, leb}
 use lib.ListN.{length, take, drop, replicate, length-append, length-drop, length-replicate, replicate-append-replicate, take-append-drop}
-use lib.Seq.{drop-append-add, drop-at, drop-cons, drop-drop, take-all}
+use lib.Seq.{drop-append-add, drop-at, drop-cons, drop-drop, take-all, take-at}
 use Rattle.meaning.specs.Interval.{End, upTo, noEnd}
 use Rattle.meaning.specs.Computed.{notPast?}
 use Rattle.meaning.specs.Spans.{Span, _to_, ended}
 use Rattle.spans.specs.declared.stretch.Held.{Held}
-use Rattle.spans.specs.Layout.{mark, wordOf, endAt, spanAt, spansFrom, spansHeld, wordsOf, packed, Laid, fitting, spansOver, freed}
-use Rattle.spans.specs.Stretch.{SpansWritten}
+use Rattle.spans.specs.Layout.{
+  mark,
+  wordOf,
+  endAt,
+  placesOf,
+  spanAt,
+  spansFrom,
+  roundFrom,
+  spansHeld,
+  wordsOf,
+  packed,
+  Laid,
+  fitting,
+  spansOver,
+  freed,
+}
+use Rattle.spans.specs.Stretch.{Inside, Overwrites, SpansWritten}
+use Rattle.spans.proofs.RoundLaws.{places-fit, places-whole, length-round}
 
 -- By cases: the word is the mark, or the end is the word itself.
 pub end-cases : (P : End → Type 0) (word : ℕ) → (word ≡ mark → P noEnd) → (¬ (word ≡ mark) → P (upTo word)) → P (endAt word)
@@ -112,21 +128,30 @@ unfolding packed
 zeros-after size S = drop-at (wordsOf S) _ (2 * length S) (length-words S)
 
 pub laid-zeros : {size : ℕ} {words : List ℕ} {held : Held} {S : List Span} → Laid size words held S
-    → drop (2 * held .count) words ≡ replicate (size - 2 * held .count) 0
+    → drop (2 * held .count) (roundFrom (held .first) words) ≡ replicate (size - 2 * held .count) 0
 laid-zeros {size} {words} {held} {S} laid = rw (laid .written, laid .counted) (zeros-after size S)
 
--- A stretch that is as long as it is said to be has room for its spans.
-laid-room : {size : ℕ} {words : List ℕ} {held : Held} {S : List Span} → Laid size words held S → length words ≡ size → 2 * held .count ≤ size
+-- A stretch that is as long as it is said to be has room for its spans, and places for them.
+pub laid-fits : {words : List ℕ} {held : Held} {S : List Span} → Laid (length words) words held S → 2 * held .count ≤ length words
 unfolding packed
-laid-room {size} {words} {held} {S} laid long =
+laid-fits {words} {held} {S} laid =
     let count : held .count ≡ length S = laid .counted in
-    let sum : length words ≡ 2 * length S + (size - 2 * length S) =
-    ap length (laid .written) ∙ simp (length-append, length-words, length-replicate)
+    let sum : length words ≡ 2 * length S + (length words - 2 * length S) =
+    sym (length-round (held .first) words) ∙ ap length (laid .written) ∙ simp (length-append, length-words, length-replicate)
     in
     omega arith
 
-pub laid-fits : {words : List ℕ} {held : Held} {S : List Span} → Laid (length words) words held S → 2 * held .count ≤ length words
-laid-fits laid = laid-room laid refl
+pub laid-inside : {words : List ℕ} {held : Held} {S : List Span} → Laid (length words) words held S → Inside words held
+laid-inside {words} {held} laid = go (eqb (held .count) 0) refl
+  where
+    go : (b : Bool) → eqb (held .count) 0 ≡ b → Inside words held
+    go true e =
+        let none : held .count ≡ 0 = eqb-true (held .count) 0 e in
+        (omega (arith, laid .unplaced none), omega arith)
+    go false e =
+        let some : 0 < held .count = omega (arith, eqb-false (held .count) 0 e) in
+        let placed : held .first < placesOf (length words) = laid .inside some in
+        (omega arith, omega (arith, laid-fits laid, places-whole (length words) (omega arith)))
 
 -- What was read is packed again as the words that were there.
 words-again : (words : List ℕ) (place count : ℕ) → 2 * place + 2 * count ≤ length words
@@ -149,40 +174,47 @@ words-again words place (suc count) h =
     )
     refl
 
--- Words that have room for the spans held are these spans written over them.
-pub held-written : (words : List ℕ) (held : Held) → 2 * held .count ≤ length words → SpansWritten words words held (spansHeld words held)
+-- Words that have room for so many spans are these spans written over them.
+pub read-written : (words : List ℕ) (count : ℕ) → 2 * count ≤ length words → Overwrites words words count (spansFrom words 0 count)
 unfolding spansOver
-held-written words held room =
-    let count : length (spansHeld words held) ≡ held .count = length-spans words 0 (held .count) in
+read-written words count room =
+    let many : length (spansFrom words 0 count) ≡ count = length-spans words 0 count in
     record {
-      written =
-          sym (take-append-drop (2 * held .count) words)
-          ∙ rw (words-again words 0 (held .count) (omega arith), count) refl;
-      counted = sym count;
+      written = sym (take-append-drop (2 * count) words) ∙ rw (words-again words 0 count (omega arith), many) refl;
+      counted = sym many;
     }
 
+pub held-written : (words : List ℕ) (held : Held) → Inside words held → SpansWritten words words held (spansHeld words held)
+held-written words held inside =
+    read-written (roundFrom (held .first) words) (held .count)
+    (rw (length-round (held .first) words) (omega (arith, inside .1, places-fit (length words))))
+
 -- With zeros after them, they are what the spans lay out.
-pub read-laid : (words : List ℕ) (held : Held) → 2 * held .count ≤ length words
-    → drop (2 * held .count) words ≡ replicate (length words - 2 * held .count) 0
+pub read-laid : (words : List ℕ) (held : Held) → Inside words held
+    → (held .count ≡ 0 → held .first ≡ 0)
+    → (0 < held .count → held .first < placesOf (length words))
+    → drop (2 * held .count) (roundFrom (held .first) words) ≡ replicate (length words - 2 * held .count) 0
     → Laid (length words) words held (spansHeld words held)
 unfolding packed spansOver
-read-laid words held room zeros =
-    let read = held-written words held room in
+read-laid words held inside unplaced placed zeros =
+    let read = held-written words held inside in
     record {
       written = read .written ∙ rw (← (read .counted), zeros) refl;
       counted = read .counted;
+      unplaced = unplaced;
+      inside = placed;
     }
 
 -- Spans written over words are read back, and have room if the length stays.
-pub written-read : {words after : List ℕ} {held : Held} {S : List Span} → SpansWritten words after held S → Stored S → spansHeld after held ≡ S
+pub written-read : {words after : List ℕ} {count : ℕ} {S : List Span} → Overwrites words after count S → Stored S → spansFrom after 0 count ≡ S
 unfolding spansOver
 written-read {S = S} done h = rw (done .written, done .counted) (words-read S _ h)
 
-pub written-room : {words after : List ℕ} {held : Held} {S : List Span} → SpansWritten words after held S → length after ≡ length words
-    → 2 * held .count ≤ length words
+pub written-room : {words after : List ℕ} {count : ℕ} {S : List Span} → Overwrites words after count S → length after ≡ length words
+    → 2 * count ≤ length words
 unfolding spansOver
-written-room {words} {after} {held} {S} done same =
-    let count : held .count ≡ length S = done .counted in
+written-room {words} {after} {count} {S} done same =
+    let many : count ≡ length S = done .counted in
     let sum : length after ≡ 2 * length S + (length words - 2 * length S) =
     ap length (done .written) ∙ simp (length-append, length-words, length-drop)
     in
@@ -210,27 +242,27 @@ drop-zeros n m h =
     ∙ ap (λ (l : List ℕ). drop n l) (sym (replicate-append-replicate n (m - n) 0))
     ∙ drop-at (replicate n 0) (replicate (m - n) 0) n (length-replicate n 0)
 
--- Where other spans take the place of those that were packed, they are packed.
-pub over-packed : (size : ℕ) (K S : List Span) → 2 * length K ≤ size → 2 * length S ≤ size → spansOver (freed (length K) (packed size K)) S ≡ packed size S
+pub take-zeros : (n m : ℕ) → n ≤ m → take n (replicate {A = ℕ} m 0) ≡ replicate n 0
+take-zeros n m h =
+    let sum : n + (m - n) ≡ m = omega arith in
+    ap (λ (k : ℕ). take n (replicate {A = ℕ} k 0)) (sym sum)
+    ∙ ap (λ (l : List ℕ). take n l) (sym (replicate-append-replicate n (m - n) 0))
+    ∙ take-at (replicate n 0) (replicate (m - n) 0) n (length-replicate n 0)
+
+-- Where those that were packed are freed, all words are 0; and spans over zeros are packed.
+pub freed-packed : (size : ℕ) (S : List Span) → 2 * length S ≤ size → freed (length S) (packed size S) ≡ replicate size 0
+unfolding packed
+freed-packed size S room =
+    let sum : 2 * length S + (size - 2 * length S) ≡ size = omega arith in
+    rw (drop-at (wordsOf S) (replicate (size - 2 * length S) 0) (2 * length S) (length-words S), replicate-append-replicate, sum) refl
+
+pub over-zeros : (size : ℕ) (S : List Span) → 2 * length S ≤ size → spansOver (replicate size 0) S ≡ packed size S
 unfolding spansOver packed
-over-packed size K S room fits =
-    let sum : 2 * length K + (size - 2 * length K) ≡ size = omega arith in
-    rw (drop-at (wordsOf K) (replicate (size - 2 * length K) 0) (2 * length K) (length-words K), replicate-append-replicate, sum)
-    (ap (λ (rest : List ℕ). wordsOf S ++ rest) (drop-zeros (2 * length S) size fits))
+over-zeros size S fits = ap (λ (rest : List ℕ). wordsOf S ++ rest) (drop-zeros (2 * length S) size fits)
 
--- Spans that have room all fit; of those held, as many as there is room for are read.
-pub fitting-all : (words : List ℕ) (S : List Span) → 2 * length S ≤ length words → fitting words S ≡ S
-fitting-all words S h = take-all (length words / 2) S (omega arith)
-
-pub fit-held : (words : List ℕ) (held : Held) → 2 * held .count ≤ length words → fitting words (spansHeld words held) ≡ spansHeld words held
-fit-held words held h = fitting-all words (spansHeld words held) (omega (arith, length-spans words 0 (held .count)))
-
-pub take-spans : (words : List ℕ) (place n count : ℕ) → n ≤ count → take n (spansFrom words place count) ≡ spansFrom words place n
-unfolding spansFrom
-take-spans words place zero count h = refl
-take-spans words place (suc n) zero h = absurd (omega arith)
-take-spans words place (suc n) (suc count) h =
-    ap (λ (S : List Span). spanAt words place ∷ S) (take-spans words (suc place) n count (omega arith))
+-- Spans that have places all fit.
+pub fitting-all : (words : List ℕ) (S : List Span) → length S ≤ placesOf (length words) → fitting words S ≡ S
+fitting-all words S h = take-all (placesOf (length words)) S h
 
 pub take-stored : (n : ℕ) (S : List Span) → Stored S → Stored (take n S)
 unfolding Stored

@@ -18,17 +18,17 @@ use Rattle.meaning.specs.Interval.{endOf}
 use Rattle.meaning.specs.Figure.{figure}
 use Rattle.meaning.specs.FrameTime.{frameTime}
 use Rattle.meaning.specs.Spans.{clip, join, update}
-use Rattle.spans.specs.Layout.{endAt, spansFrom, wordsOf, packed, zeros?}
-use Rattle.spans.specs.Stretch.{covered}
+use Rattle.spans.specs.Layout.{endAt, placesOf, placeAt, spansFrom, roundFrom, laidFrom, wordsOf, packed, zeros?, placed?}
+use Rattle.spans.specs.Stretch.{covered, firstLeft}
 use Rattle.sound_spans.specs.StretchSound.{soundSpan?, soundFrom?, soundEndless?, soundSpans?, soundStretch?}
 use Rattle.soundness.specs.Record.{stretchAt, nothingSeen}
 use Rattle.soundness.specs.Soundness.{every, soundRow?, zeroPast?, sound?}
 use Rattle.soundness.specs.Ready.{readyOf}
 use Rattle.monitor.specs.Start.{startOf}
-use Rattle.monitor.specs.Event.{spansAfter, truthOf, truthsAfter, countsWith, wordsDone, storeWith, recordAfter}
+use Rattle.monitor.specs.Event.{spansAfter, firstAfter, truthOf, truthsAfter, entriesWith, wordsDone, storeWith, recordAfter}
 use Rattle.monitor.specs.Step.{refusalOf, stepOf}
 use Rattle.text_promises.specs.WholeCase.{WholeCase}
 
 pub whole-case : WholeCase
-unfolding emptyStore transcript rulesFrom setupThen framesFrom linesGoingOn replyLine isDigit digitValue digitsAt hexAt digitByte digits rightAt sumAt lineAt listMarked risesWithin listPasses bitsOf verdictNumber checkOf lengthPasses rowPasses limitsPass faultOf firstFault kindAt numbersAt offset below reaches reached? lowestNot endOf figure frameTime clip join update endAt spansFrom wordsOf packed covered soundSpan? soundFrom? soundEndless? soundSpans? zeros? soundStretch? stretchAt nothingSeen every soundRow? zeroPast? sound? readyOf startOf spansAfter truthOf truthsAfter countsWith wordsDone storeWith recordAfter refusalOf stepOf
+unfolding emptyStore transcript rulesFrom setupThen framesFrom linesGoingOn replyLine isDigit digitValue digitsAt hexAt digitByte digits rightAt sumAt lineAt listMarked risesWithin listPasses bitsOf verdictNumber checkOf lengthPasses rowPasses limitsPass faultOf firstFault kindAt numbersAt offset below reaches reached? lowestNot endOf figure frameTime clip join update endAt placesOf placeAt spansFrom roundFrom laidFrom wordsOf packed covered firstLeft soundSpan? soundFrom? soundEndless? soundSpans? zeros? placed? soundStretch? stretchAt nothingSeen every soundRow? zeroPast? sound? readyOf startOf spansAfter firstAfter truthOf truthsAfter entriesWith wordsDone storeWith recordAfter refusalOf stepOf
 whole-case = refl

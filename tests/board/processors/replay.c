@@ -2,13 +2,12 @@
  * the first difference, or with the count of calls. tests/board/reference/calls.rs tells how the file is written. */
 #include <stdio.h>
 #include <stdlib.h>
+#include <string.h>
 
 #include "muktrashi.h"
 
-/* The longest table, list and other row, and how much of the file is read at once: a small board has 16 kB of memory. */
-#define LONGEST_TABLE (5 * (MUK_ROWS + 2))
-#define LONGEST_LIST (2 * MUK_LIST + 1)
-#define LONGEST_ROW 330
+/* The bytes that the rows of a call have together, and how much of the file is read at once: a small board has 16 kB of memory. */
+#define ROOM 6144
 #define READ_AT_ONCE 256
 /* The word behind the lent store, which must stay as it is. */
 #define GUARD UINT64_C(0x5A5A5A5A5A5A5A5A)
@@ -19,14 +18,18 @@ static FILE *file;
 static char read_at_once[READ_AT_ONCE];
 static unsigned long calls;
 
-static uint32_t table[LONGEST_TABLE];
-static uint64_t table_len;
-static uint32_t list[LONGEST_LIST];
-static uint64_t list_len;
-static uint64_t store[LONGEST_ROW + 1];
-static uint64_t store_len;
-static uint8_t text[LONGEST_ROW];
-static uint64_t text_len;
+/* Table and list one behind the other, and the store, with a word more, at the next even place; or a text. */
+static union {
+    uint32_t numbers[ROOM / 4];
+    uint64_t words[ROOM / 8];
+    uint8_t bytes[ROOM];
+} room;
+
+static uint32_t *const table = room.numbers;
+static uint32_t *list;
+static uint64_t *store;
+static uint8_t *const text = room.bytes;
+static uint64_t table_len, list_len, store_len, text_len;
 static muk_record record;
 
 /* A row as it is lent: where it is empty, by a null pointer. */
@@ -70,7 +73,7 @@ static uint64_t length(uint64_t longest) {
 
 static void read_table(void) {
     uint64_t i;
-    table_len = length(LONGEST_TABLE);
+    table_len = length(ROOM / 4);
     for (i = 0; i < table_len; i++)
         table[i] = (uint32_t)number();
 }
@@ -78,25 +81,45 @@ static void read_table(void) {
 static void read_rules(void) {
     uint64_t i;
     read_table();
-    list_len = length(LONGEST_LIST);
+    list = table + table_len;
+    list_len = length(ROOM / 4 - table_len);
     for (i = 0; i < list_len; i++)
         list[i] = (uint32_t)number();
 }
 
 static void read_text(void) {
     uint64_t i;
-    text_len = length(LONGEST_ROW);
+    text_len = length(ROOM);
     for (i = 0; i < text_len; i++)
         text[i] = (uint8_t)number();
+}
+
+/* Words of the store by their bytes, since C may take it that what is written as a word holds no numbers of 32 bits. */
+static void put_word(uint64_t place, uint64_t word) {
+    memcpy(store + place, &word, sizeof word);
+}
+
+static uint64_t word_at(uint64_t place) {
+    uint64_t word;
+    memcpy(&word, store + place, sizeof word);
+    return word;
+}
+
+static void read_store(void) {
+    uint64_t i, place = (table_len + list_len + 1) / 2, words = ROOM / 8;
+    if (place >= words)
+        stop("the rows are too long");
+    store = room.words + place;
+    store_len = length(words - place - 1);
+    for (i = 0; i < store_len; i++)
+        put_word(i, number());
+    put_word(store_len, GUARD);
 }
 
 /* The record's entries stand in the file up to the last that is not 0. */
 static void read_kept(void) {
     uint64_t i, used;
-    store_len = length(LONGEST_ROW);
-    for (i = 0; i < store_len; i++)
-        store[i] = number();
-    store[store_len] = GUARD;
+    read_store();
     record.seen = (uint8_t)number();
     record.clock = number();
     record.last = number();
@@ -107,6 +130,9 @@ static void read_kept(void) {
     used = length(MUK_ROWS);
     for (i = 0; i < MUK_ROWS; i++)
         record.counts[i] = i < used ? (uint32_t)number() : 0;
+    used = length(MUK_ROWS);
+    for (i = 0; i < MUK_ROWS; i++)
+        record.firsts[i] = i < used ? (uint32_t)number() : 0;
 }
 
 static void same_entry(const char *what, uint64_t found, int written) {
@@ -120,8 +146,8 @@ static void same_kept(void) {
     uint64_t i, used;
     same("the store's length", store_len);
     for (i = 0; i < store_len; i++)
-        same("a word of the store", store[i]);
-    if (store[store_len] != GUARD)
+        same("a word of the store", word_at(i));
+    if (word_at(store_len) != GUARD)
         stop("the word behind the store has changed");
     same("seen", record.seen);
     same("clock", record.clock);
@@ -133,6 +159,9 @@ static void same_kept(void) {
     used = length(MUK_ROWS);
     for (i = 0; i < MUK_ROWS; i++)
         same_entry("a count", record.counts[i], i < used);
+    used = length(MUK_ROWS);
+    for (i = 0; i < MUK_ROWS; i++)
+        same_entry("a first place", record.firsts[i], i < used);
 }
 
 static void check(void) {

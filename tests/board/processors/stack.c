@@ -5,7 +5,7 @@
 
 #include "muktrashi.h"
 
-#define DEPTH 5120
+#define DEPTH 4608
 #define PAINT 0xA5
 #define NUMBERS (5 * MUK_ROWS)
 #define STORE 640

@@ -20,54 +20,84 @@ pub fn stretches(rows: &[Formula]) -> Vec<(usize, Interval, usize)> {
     stretches
 }
 
-/// Soundness of one stretch, `words`, with so many spans, at this clock and this time of the last event.
-fn sound_stretch(interval: Interval, words: &[u64], count: u32, clock: u64, event: u64) -> bool {
-    if count as u64 > interval.spans() {
+/// The pairs of words of a stretch, `words`, from a place on, round.
+fn round(words: &[u64], first: u32) -> Vec<(u64, u64)> {
+    let mut pairs: Vec<(u64, u64)> = words.chunks(2).map(|pair| (pair[0], pair[1])).collect();
+    pairs.rotate_left(first as usize);
+    pairs
+}
+
+/// Soundness of one stretch, `words`, with so many spans from its first place round, at this clock and this time of the last event.
+fn sound_stretch(interval: Interval, words: &[u64], first: u32, count: u32, clock: u64, event: u64) -> bool {
+    let within = if count == 0 { first == 0 } else { (first as u64) < interval.spans() };
+    if count as u64 > interval.spans() || !within {
         return false;
     }
-    let (used, unused) = words.split_at(2 * count as usize);
-    let spans: Vec<(u128, u128)> = used.chunks(2).map(|span| (span[0] as u128, span[1] as u128)).collect();
+    let mut spans = round(words, first);
+    let free = spans.split_off(count as usize);
+    let spans: Vec<(u128, u128)> = spans.iter().map(|&(first, last)| (first as u128, last as u128)).collect();
     let [clock, event, a] = [clock, event, interval.a].map(u128::from);
     let each = spans.iter().all(|&(first, last)| match interval.b.map(u128::from) {
         Some(b) => first <= last && clock <= first && last <= event + b && (first == clock || last - first >= b - a),
         None => clock <= first && first <= clock.max(event + a) && last == NO_LAST as u128,
     });
     let apart = spans.windows(2).all(|pair| pair[0].1 + 2 <= pair[1].0);
-    each && apart && unused.iter().all(|&word| word == 0)
+    each && apart && free.iter().all(|&pair| pair == (0, 0))
 }
 
 fn sound(rows: &[Formula], store: &[u64], record: &Record) -> bool {
     let stretches = stretches(rows);
     let owns = |row: usize| stretches.iter().any(|&(owner, _, _)| owner == row);
-    let no_event = record.last == 0 && record.truths == [0; ROW_LIMIT] && record.counts == [0; ROW_LIMIT];
+    let no_event = record.last == 0 && record.truths == [0; ROW_LIMIT] && record.counts == [0; ROW_LIMIT] && record.firsts == [0; ROW_LIMIT];
     record.seen <= 1
         && record.truths.iter().all(|&truth| truth <= 1)
         && record.rows as usize == rows.len()
         && record.truths[rows.len()..].iter().all(|&truth| truth == 0)
-        && (0..ROW_LIMIT).all(|row| owns(row) || record.counts[row] == 0)
+        && (0..ROW_LIMIT).all(|row| owns(row) || record.counts[row] == 0 && record.firsts[row] == 0)
         && (record.seen == 1 || no_event)
         && record.last <= record.clock
         && record.clock <= TIME_LIMIT
         && stretches.iter().all(|&(row, interval, place)| {
             let words = &store[place..place + 2 * interval.spans() as usize];
-            sound_stretch(interval, words, record.counts[row], record.clock, record.last)
+            sound_stretch(interval, words, record.firsts[row], record.counts[row], record.clock, record.last)
         })
 }
 
-/// So many spans of a stretch, `words`, clipped at t: ended ones are dropped, and the first one begins no earlier.
-fn clipped(words: &[u64], count: u32, t: u64) -> Vec<(u64, u64)> {
-    let held = words.chunks(2).take(count as usize);
-    held.filter(|span| span[1] >= t).map(|span| (span[0].max(t), span[1])).collect()
+/// The spans of a stretch, oldest first, the place at which the oldest stands, and how many places there are.
+struct Ring {
+    spans: Vec<(u64, u64)>,
+    first: usize,
+    places: usize,
 }
 
-/// Puts spans into their stretch, `words`, zeros behind them; gives how many there are.
-fn put(words: &mut [u64], spans: &[(u64, u64)]) -> u32 {
-    words.fill(0);
-    for (place, &(first, last)) in spans.iter().enumerate() {
-        words[2 * place] = first;
-        words[2 * place + 1] = last;
+impl Ring {
+    /// So many spans of `words`, from the first place round, clipped at t: ended ones are dropped, and the first one begins no earlier. The place goes on by
+    /// those dropped; where all are, it is 0.
+    fn clipped(words: &[u64], first: u32, count: u32, t: u64) -> Ring {
+        let held = round(words, first).into_iter().take(count as usize);
+        let spans: Vec<(u64, u64)> = held.filter(|&(_, last)| last >= t).map(|(first, last)| (first.max(t), last)).collect();
+        let (dropped, places) = (count as usize - spans.len(), words.len() / 2);
+        let first = if spans.is_empty() { 0 } else { (first as usize + dropped) % places };
+        Ring { spans, first, places }
     }
-    spans.len() as u32
+
+    /// No span is left.
+    fn clear(&mut self) {
+        self.spans.clear();
+        self.first = 0;
+    }
+
+    /// Puts the spans into their stretch, `words`, zeros in the places that are free; gives the first place and how many spans there are.
+    fn put(&self, words: &mut [u64]) -> (u32, u32) {
+        assert!(self.spans.len() <= self.places, "more spans than places");
+        words.fill(0);
+        for (index, &(first, last)) in self.spans.iter().enumerate() {
+            let place = (self.first + index) % self.places;
+            words[2 * place] = first;
+            words[2 * place + 1] = last;
+        }
+        (self.first as u32, self.spans.len() as u32)
+    }
 }
 
 /// The span t+a to t+b joined into spans, all of which are clipped at t.
@@ -84,17 +114,18 @@ fn join(spans: &mut Vec<(u64, u64)>, span: (u64, u64)) {
     *spans = joined;
 }
 
-/// An event at t in a stretch, `words`, with so many spans: they are clipped at t, dropped unless they are kept, and t+a to t+b is joined in
-/// where the event feeds them. Gives how many there are then, and whether t lies in one.
-fn update(interval: Interval, words: &mut [u64], count: u32, t: u64, kept: bool, fed: bool) -> (u32, bool) {
-    let mut spans = clipped(words, count, t);
+/// An event at t in a stretch, `words`, with so many spans from its first place round: they are clipped at t, dropped unless they are kept, and t+a to t+b
+/// is joined in where the event feeds them. Gives the first place and how many there are then, and whether t lies in one.
+fn update(interval: Interval, words: &mut [u64], first: u32, count: u32, t: u64, kept: bool, fed: bool) -> (u32, u32, bool) {
+    let mut ring = Ring::clipped(words, first, count, t);
     if !kept {
-        spans.clear();
+        ring.clear();
     }
     if fed {
-        join(&mut spans, (t + interval.a, interval.b.map_or(NO_LAST, |b| t + b)));
+        join(&mut ring.spans, (t + interval.a, interval.b.map_or(NO_LAST, |b| t + b)));
     }
-    (put(words, &spans), spans.iter().any(|&(first, last)| first <= t && t <= last))
+    let (first, count) = ring.put(words);
+    (first, count, ring.spans.iter().any(|&(first, last)| first <= t && t <= last))
 }
 
 /// One event, rows rising, on a sound record.
@@ -106,7 +137,8 @@ fn step(rows: &[Formula], store: &mut [u64], record: &mut Record, t: u64, mask: 
         let mut inside = |kept: bool, fed: bool| {
             let (_, interval, place) = stretches.next().unwrap();
             let words = &mut store[place..place + 2 * interval.spans() as usize];
-            let (count, inside) = update(interval, words, before.counts[row], t, kept, fed);
+            let (first, count, inside) = update(interval, words, before.firsts[row], before.counts[row], t, kept, fed);
+            record.firsts[row] = first;
             record.counts[row] = count;
             inside
         };
@@ -137,8 +169,7 @@ fn verdict(list: &[u32], record: &Record) -> u32 {
 fn beat(rows: &[Formula], store: &mut [u64], record: &mut Record, t: u64) {
     for (row, interval, place) in stretches(rows) {
         let words = &mut store[place..place + 2 * interval.spans() as usize];
-        let spans = clipped(words, record.counts[row], t);
-        record.counts[row] = put(words, &spans);
+        (record.firsts[row], record.counts[row]) = Ring::clipped(words, record.firsts[row], record.counts[row], t).put(words);
     }
     record.clock = t;
 }

@@ -13,10 +13,11 @@ pub struct Record {
     pub rows: u32,
     pub truths: [u8; ROW_LIMIT],
     pub counts: [u32; ROW_LIMIT],
+    pub firsts: [u32; ROW_LIMIT],
 }
 
 impl Record {
-    pub const ZERO: Record = Record { seen: 0, clock: 0, last: 0, rows: 0, truths: [0; ROW_LIMIT], counts: [0; ROW_LIMIT] };
+    pub const ZERO: Record = Record { seen: 0, clock: 0, last: 0, rows: 0, truths: [0; ROW_LIMIT], counts: [0; ROW_LIMIT], firsts: [0; ROW_LIMIT] };
 }
 
 /// Words behind the lent store that must stay as they are.

@@ -4,16 +4,15 @@
 //! function ends the file; the count of calls follows.
 
 use crate::board::{Call, Checked, Kept, Line};
-use crate::table::{Rules, Table, LIST_LIMIT, ROW_LIMIT};
+use crate::table::{Rules, Table, ROW_LIMIT};
 use std::fs::File;
 use std::io::{BufWriter, Write};
 
 /// Every so many calls one is written, if it fits.
 const EVERY: u64 = 37;
-/// The longest table, list and other row that fit: a small board has 16 kB of memory.
-const LONGEST_TABLE: usize = 5 * (ROW_LIMIT + 2);
-const LONGEST_LIST: usize = 2 * LIST_LIMIT + 1;
-const LONGEST_ROW: usize = 330;
+/// The bytes that the rows of a call may take together: a small board has 16 kB of memory. A word is left for what stands behind the store, and a number
+/// for what aligns it.
+const ROOM: usize = 6144 - 8 - 4;
 
 #[derive(Clone, Copy, Debug)]
 pub enum Function {
@@ -25,10 +24,10 @@ pub enum Function {
     ReadFrame,
 }
 
-/// The bytes of one call.
+/// The bytes of one call, and how many its rows take in memory.
 pub struct Entry {
     bytes: Vec<u8>,
-    fits: bool,
+    taken: usize,
 }
 
 impl Entry {
@@ -45,8 +44,8 @@ impl Entry {
         numbers.iter().for_each(|&number| self.number(number));
     }
 
-    fn row<T: Copy + Into<u64>>(&mut self, numbers: &[T], longest: usize) {
-        self.fits &= numbers.len() <= longest;
+    fn row<T: Copy + Into<u64>>(&mut self, numbers: &[T]) {
+        self.taken += std::mem::size_of_val(numbers);
         self.number(numbers.len() as u64);
         self.numbers(numbers);
     }
@@ -54,7 +53,8 @@ impl Entry {
     /// The record's entries, without the zeros at their end.
     fn entries<T: Copy + Into<u64>>(&mut self, numbers: &[T; ROW_LIMIT]) {
         let used = numbers.iter().rposition(|&number| number.into() != 0).map_or(0, |last| last + 1);
-        self.row(&numbers[..used], ROW_LIMIT);
+        self.number(used as u64);
+        self.numbers(&numbers[..used]);
     }
 }
 
@@ -65,13 +65,13 @@ pub trait Written {
 
 impl<T: Copy + Into<u64>> Written for [T] {
     fn to(&self, entry: &mut Entry) {
-        entry.row(self, LONGEST_ROW);
+        entry.row(self);
     }
 }
 
 impl Written for Table<'_> {
     fn to(&self, entry: &mut Entry) {
-        entry.row(self.0, LONGEST_TABLE);
+        entry.row(self.0);
     }
 }
 
@@ -90,8 +90,8 @@ impl<A: Written, B: Written> Written for (A, B) {
 
 impl Written for Rules<'_> {
     fn to(&self, entry: &mut Entry) {
-        Table(self.table).to(entry);
-        entry.row(self.list, LONGEST_LIST);
+        entry.row(self.table);
+        entry.row(self.list);
     }
 }
 
@@ -116,6 +116,7 @@ impl Written for Kept {
         entry.number(self.record.rows);
         entry.entries(&self.record.truths);
         entry.entries(&self.record.counts);
+        entry.entries(&self.record.firsts);
     }
 }
 
@@ -161,13 +162,14 @@ impl Calls {
         if self.made % EVERY != 0 {
             return;
         }
-        let mut entry = Entry { bytes: Vec::new(), fits: true };
+        let mut entry = Entry { bytes: Vec::new(), taken: 0 };
         entry.number(function as u32);
         given.to(&mut entry);
         before.to(&mut entry);
+        let fits = entry.taken <= ROOM;
         entry.number(code);
         left.to(&mut entry);
-        if entry.fits {
+        if fits {
             self.written += 1;
             self.write(&entry);
         }
@@ -175,7 +177,7 @@ impl Calls {
 
     /// Ends the file; gives the count of calls in it.
     pub fn end(&mut self) -> u64 {
-        let mut entry = Entry { bytes: Vec::new(), fits: true };
+        let mut entry = Entry { bytes: Vec::new(), taken: 0 };
         entry.numbers(&[0, self.written]);
         self.write(&entry);
         self.written

@@ -201,8 +201,8 @@ pub fn words(random: &mut Random, count: u64) -> Vec<u64> {
 
 /// A record of any content, as it may stand before a start.
 pub fn any_record(random: &mut Random) -> Record {
-    let (clock, last, byte, count) = (random.word(), random.word(), random.word() as u8, random.word() as u32);
-    Record { seen: byte, clock, last, rows: count, truths: [byte; ROW_LIMIT], counts: [count; ROW_LIMIT] }
+    let (clock, last, byte, count, first) = (random.word(), random.word(), random.word() as u8, random.word() as u32, random.word() as u32);
+    Record { seen: byte, clock, last, rows: count, truths: [byte; ROW_LIMIT], counts: [count; ROW_LIMIT], firsts: [first; ROW_LIMIT] }
 }
 
 /// Numbers of any content, as they may stand where a table check writes.
@@ -288,7 +288,7 @@ fn sound_spans(random: &mut Random, interval: Interval, clock: u64, event: u64) 
     spans
 }
 
-/// A sound record of a table, which perhaps no stream reaches, with its store.
+/// A sound record of a table, which perhaps no stream reaches, with its store. A stretch begins at any place, often at its ends.
 pub fn sound_record(random: &mut Random, rows: &[Formula], spare: u64) -> (Record, Vec<u64>) {
     let mut record = Record { rows: rows.len() as u32, ..Record::ZERO };
     let mut store = vec![0; table::need(rows) as usize];
@@ -305,17 +305,27 @@ pub fn sound_record(random: &mut Random, rows: &[Formula], spare: u64) -> (Recor
     }
     for (row, interval, place) in stretches(rows) {
         let spans = sound_spans(random, interval, record.clock, record.last);
+        if spans.is_empty() {
+            continue;
+        }
+        let (places, any) = (interval.spans(), random.below(interval.spans()));
+        let begin = random.pick(&[0, any, any, places - 1]);
         record.counts[row] = spans.len() as u32;
-        for (index, (first, last)) in spans.into_iter().enumerate() {
-            store[place + 2 * index] = first;
-            store[place + 2 * index + 1] = last;
+        record.firsts[row] = begin as u32;
+        for (index, (first, last)) in (begin..).zip(spans) {
+            let word = place + 2 * (index % places) as usize;
+            store[word] = first;
+            store[word + 1] = last;
         }
     }
     (record, store)
 }
 
-/// One field of a record or one word of a store changed.
-pub fn damage_record(random: &mut Random, record: &mut Record, store: &mut [u64]) {
+/// One field of a record or one word of a store changed, or a ring.
+pub fn damage_record(random: &mut Random, table: &[Formula], record: &mut Record, store: &mut [u64]) {
+    if random.once_in(3) {
+        return damage_ring(random, table, record, store);
+    }
     let rows = (record.rows as usize).clamp(1, ROW_LIMIT);
     let row = if random.once_in(8) { random.below(ROW_LIMIT as u64) } else { random.below(rows as u64) } as usize;
     let near = random.pick(&[1, 1, 2, u64::MAX, u64::MAX, u64::MAX - 1]);
@@ -338,6 +348,59 @@ pub fn damage_record(random: &mut Random, record: &mut Record, store: &mut [u64]
             let place = if used.is_empty() { random.below(store.len() as u64) as usize } else { random.pick(&used) };
             store[place] = store[place].wrapping_add(near);
         }
+    }
+}
+
+/// A row's first place changed, or what stands in its stretch. Most of this is wrong by one thing alone.
+fn damage_ring(random: &mut Random, table: &[Formula], record: &mut Record, store: &mut [u64]) {
+    let stretches = stretches(table);
+    let any = random.word() as u32;
+    if stretches.is_empty() || random.once_in(6) {
+        // A row that owns no stretch, or one past the table's, often at their ends.
+        let plain = (0..ROW_LIMIT).filter(|&row| table.get(row).and_then(Formula::stretch).is_none());
+        let (within, past): (Vec<_>, Vec<_>) = plain.partition(|&row| row < table.len());
+        let of = if past.is_empty() || random.once_in(2) { within } else { past };
+        let row = random.pick(&of);
+        let row = random.pick(&[of[0], of[of.len() - 1], row]);
+        record.firsts[row] = random.pick(&[1, 1, 1 << 8, 1 << 16, 1 << 31, any]);
+        return;
+    }
+    let (holding, empty): (Vec<_>, Vec<_>) = stretches.into_iter().partition(|&(row, _, _)| record.counts[row] > 0);
+    if holding.is_empty() || !empty.is_empty() && random.once_in(6) {
+        // A first place where there is no span, often one that the stretch has.
+        let (row, interval, _) = random.pick(&empty);
+        let places = interval.spans() as u32;
+        record.firsts[row] = random.pick(&[1, places - 1, places - 1, places, any]);
+        return;
+    }
+    let (row, interval, place) = random.pick(&holding);
+    let (places, first, count) = (interval.spans() as u32, record.firsts[row], record.counts[row]);
+    let word = |index: u64| place + (2 * first as u64 + index) as usize % (2 * places) as usize;
+    let (used, free) = (2 * count as u64, 2 * (places - count) as u64);
+    match random.below(8) {
+        // Round once more, or as often as there are numbers: the same place, but not below the figure.
+        0 => record.firsts[row] = random.pick(&[first + places, first + places, first + (u32::MAX - first) / places * places]),
+        1 => record.firsts[row] = random.pick(&[places, places - 1, u32::MAX, u32::MAX - 1, any, 0]),
+        2 => record.firsts[row] = first.wrapping_add(random.pick(&[1, 1, u32::MAX, 1 << 8, 1 << 16, 1 << 31])),
+        // The oldest span is dropped, or the newest, and its words stay.
+        3 if count > 1 => {
+            record.firsts[row] = (first + random.below(2) as u32) % places;
+            record.counts[row] -= 1;
+        }
+        // Two neighbours change places, often those at the stretch's ends.
+        4 | 5 if count > 1 => {
+            let end = (places - first) as u64;
+            let newer = if end < count as u64 { random.pick(&[end, end, 1]) } else { random.between(1, count as u64 - 1) };
+            store.swap(word(2 * newer), word(2 * newer - 2));
+            store.swap(word(2 * newer + 1), word(2 * newer - 1));
+        }
+        // A word that is free.
+        _ if free > 0 => {
+            let index = used + random.pick(&[0, 1, free - 2, free - 1, any as u64 % free]);
+            store[word(index)] = random.pick(&[1, 1, record.clock, NO_LAST]);
+        }
+        // No word is free: another span is the first.
+        _ => record.firsts[row] = random.below(places as u64) as u32,
     }
 }
 

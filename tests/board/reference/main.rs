@@ -107,7 +107,7 @@ fn unreached(random: &mut Random, calls: &mut Calls) {
         let (mut record, mut store) = inputs::sound_record(random, &rows, spare);
         let clock = record.clock;
         match random.below(8) {
-            0..=2 => inputs::damage_record(random, &mut record, &mut store),
+            0..=2 => inputs::damage_record(random, &rows, &mut record, &mut store),
             3 => inputs::damage_table(random, &mut table),
             4 => store.truncate(random.below(store.len() as u64 + 1) as usize),
             5 => table = inputs::table(random),

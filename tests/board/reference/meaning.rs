@@ -1,5 +1,6 @@
 //! The first reference: a monitor straight from the meaning, for records reached from a start. It keeps every accepted event, the clock and no spans;
-//! verdicts, records and the words of the store are computed from the whole history each time. A heartbeat is no event.
+//! verdicts, records and the words of the store are computed from the whole history each time. Only where a run stands follows from how the stream went: of
+//! each row it counts the runs that began. A heartbeat is no event.
 
 use crate::board::{Call, Record, HEARTBEAT, MOVED};
 use crate::lines::time_of;
@@ -11,16 +12,19 @@ struct Event {
     truths: Vec<bool>,
 }
 
-/// The accepted events since a start, oldest first, and the time of the last accepted call, heartbeats too.
+/// The accepted events since a start, oldest first, and the time of the last accepted call, heartbeats too. Of each row, how many runs began since it last
+/// had none: the one that began n-th, n from 0, stands at place n of the stretch, round.
 pub struct History {
     rows: Vec<Formula>,
     events: Vec<Event>,
     clock: u64,
+    begun: Vec<usize>,
 }
 
 impl History {
     pub fn start(rows: Vec<Formula>) -> History {
-        History { rows, events: Vec::new(), clock: 0 }
+        let begun = vec![0; rows.len()];
+        History { rows, events: Vec::new(), clock: 0, begun }
     }
 
     /// The answer to a call: its verdict tells of the rows that its list names.
@@ -43,6 +47,7 @@ impl History {
         }
         self.clock = time;
         if mask & HEARTBEAT != 0 {
+            self.follow(None);
             return MOVED;
         }
         self.events.push(Event { time, truths: Vec::new() });
@@ -50,7 +55,22 @@ impl History {
             let truth = self.holds(row, mask);
             self.events.last_mut().unwrap().truths.push(truth);
         }
+        self.follow(Some(self.events.len() - 1));
         self.verdict(list)
+    }
+
+    /// After a call at the clock's time, of this event or of none: a row that has no run but what the event brings begins to count anew, and a run that only the
+    /// event brings has begun.
+    fn follow(&mut self, event: Option<usize>) {
+        for row in 0..self.rows.len() {
+            if let Some(interval) = self.rows[row].stretch() {
+                let mut starts = self.starts(row);
+                let runs = self.runs(&starts, interval).len();
+                starts.retain(|&start| Some(start) != event);
+                let without = self.runs(&starts, interval).len();
+                self.begun[row] = if without == 0 { runs } else { self.begun[row] + runs - without };
+            }
+        }
     }
 
     /// The lowest row that is not reached. The listed rows are reached, and so are those that reached rows name, until no more come.
@@ -102,12 +122,12 @@ impl History {
         }
     }
 
-    /// The times of the events at which y is true and after which x is true at every event.
-    fn since(&self, x: usize, y: usize) -> Vec<u64> {
+    /// The events at which y is true and after which x is true at every event.
+    fn since(&self, x: usize, y: usize) -> Vec<usize> {
         let mut starts = Vec::new();
-        for event in self.events.iter().rev() {
+        for (place, event) in self.events.iter().enumerate().rev() {
             if event.truths[y] {
-                starts.push(event.time);
+                starts.push(place);
             }
             if !event.truths[x] {
                 break;
@@ -116,36 +136,36 @@ impl History {
         starts
     }
 
-    /// The times of the events at which row x has this truth.
-    fn times(&self, x: usize, truth: bool) -> Vec<u64> {
-        self.events.iter().filter(|event| event.truths[x] == truth).map(|event| event.time).collect()
+    /// The events at which row x has this truth.
+    fn having(&self, x: usize, truth: bool) -> Vec<usize> {
+        (0..self.events.len()).filter(|&place| self.events[place].truths[x] == truth).collect()
     }
 
-    /// The times from which a row's runs are reached; of an always row those of the events where x is false.
-    fn starts(&self, row: usize) -> Vec<u64> {
+    /// The events from which a row's runs are reached; of an always row those where x is false.
+    fn starts(&self, row: usize) -> Vec<usize> {
         match self.rows[row] {
             Formula::Since(x, y, _) => self.since(x, y),
-            Formula::Once(x, _) => self.times(x, true),
-            Formula::Always(x, _) => self.times(x, false),
+            Formula::Once(x, _) => self.having(x, true),
+            Formula::Always(x, _) => self.having(x, false),
             _ => Vec::new(),
         }
     }
 
     /// Whether u, which is not below the newest event's time, lies in [a,b] from some start.
-    fn reached(&self, starts: &[u64], interval: Interval, u: u64) -> bool {
-        starts.iter().any(|start| interval.has(u - start))
+    fn reached(&self, starts: &[usize], interval: Interval, u: u64) -> bool {
+        starts.iter().any(|&start| interval.has(u - self.events[start].time))
     }
 
-    /// The maximal runs of reached values from the clock on, rising. A run begins at the clock or a after a start and ends b after one.
-    fn runs(&self, row: usize, interval: Interval) -> Vec<(u64, u64)> {
+    /// The maximal runs of values reached from these starts, from the clock on, rising. A run begins at the clock or a after a start and ends b after one.
+    fn runs(&self, starts: &[usize], interval: Interval) -> Vec<(u64, u64)> {
         let now = self.clock;
-        let starts = self.starts(row);
-        let reached = |u: u64| u >= now && self.reached(&starts, interval, u);
-        let mut firsts: Vec<u64> = starts.iter().map(|start| start + interval.a).chain([now]).collect();
+        let reached = |u: u64| u >= now && self.reached(starts, interval, u);
+        let times = || starts.iter().map(|&start| self.events[start].time);
+        let mut firsts: Vec<u64> = times().map(|start| start + interval.a).chain([now]).collect();
         firsts.retain(|&u| reached(u) && (u == now || !reached(u - 1)));
         let mut lasts: Vec<u64> = match interval.b {
-            Some(b) => starts.iter().map(|start| start + b).filter(|&u| reached(u) && !reached(u + 1)).collect(),
-            None => starts.iter().map(|_| u64::MAX).collect(),
+            Some(b) => times().map(|start| start + b).filter(|&u| reached(u) && !reached(u + 1)).collect(),
+            None => times().map(|_| u64::MAX).collect(),
         };
         for ends in [&mut firsts, &mut lasts] {
             ends.sort();
@@ -168,12 +188,16 @@ impl History {
         }
         for (row, formula) in self.rows.iter().enumerate() {
             if let Some(interval) = formula.stretch() {
-                let runs = self.runs(row, interval);
+                let runs = self.runs(&self.starts(row), interval);
+                let places = interval.spans() as usize;
+                assert!(runs.len() <= places, "more runs than the figure");
+                let mut stretch = vec![[0, 0]; places];
+                for (number, &(first, last)) in (self.begun[row] - runs.len()..).zip(&runs) {
+                    stretch[number % places] = [first, last];
+                }
+                words.extend(stretch.concat());
                 record.counts[row] = runs.len() as u32;
-                let end = words.len() + 2 * interval.spans() as usize;
-                words.extend(runs.iter().flat_map(|&(first, last)| [first, last]));
-                assert!(words.len() <= end, "more runs than the figure");
-                words.resize(end, 0);
+                record.firsts[row] = ((self.begun[row] - runs.len()) % places) as u32;
             }
         }
         (record, words)

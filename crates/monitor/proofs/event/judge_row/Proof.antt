@@ -3,7 +3,7 @@ use mathlib.Core.Path.{sym, _∙_}
 use native.Mathlib.Omega.{arith}
 use denote.Ref.{now}
 use borrow.Author.Needs.{needs}
-use Rattle.monitor.proofs.RowLaws.{StretchRead, ends-within, stretch-ready, stretch-count, stretch-judged, plain-judged}
+use Rattle.monitor.proofs.RowLaws.{StretchRead, ends-within, stretch-ready, stretch-count, stretch-first, stretch-judged, plain-judged}
 use Rattle.monitor.proofs.event.judge_row.Statement.{statement}
 use Rattle.monitor.proofs.event.judge_row.Tie as tie
 
@@ -52,25 +52,29 @@ judge-stretch-requires c κs =
 taken-requires : tie.Need-taken-requires
 taken-requires c κs = search needs
 
-abbrev judged-of : tie.After-struct-known → tie.After-judge-stretch
-judged-of c = c .before .before .before .before .before
-
-cast-t22 : tie.Need-cast-t22
-cast-t22 c =
-    let j = judged-of c in
+cast-t23 : tie.Need-cast-t23
+cast-t23 c =
+    let j = c .before .before .before .before .before in
     let t = j .before .before in
     let w = words-of t in
     record { fits = stretch-count (w .before .before .pre) (w .words .ensures) (names t) (j .judge-stretch .ensures) }
+
+cast-t24 : tie.Need-cast-t24
+cast-t24 c =
+    let j = c .before .before .before .before .before .before in
+    let t = j .before .before in
+    let w = words-of t in
+    record { fits = stretch-first (w .before .before .pre) (w .words .ensures) (names t) (j .judge-stretch .ensures) }
 
 same-length : tie.Need-same-length
 same-length c = search needs
 
 returns : tie.Need-returns
 returns c =
-    let j = judged-of c in
+    let j = c .before .before .before .before .before .before in
     let t = j .before .before in
     let w = words-of t in
-    stretch-judged (w .before .before .pre) (w .words .ensures) (names t) (j .judge-stretch .ensures) (c .before .taken .ensures)
+    stretch-judged (w .before .before .pre) (w .words .ensures) (names t) (j .judge-stretch .ensures) (c .before .before .taken .ensures)
 
 judge-plain-requires : tie.Need-judge-plain-requires
 judge-plain-requires c κs =
@@ -95,7 +99,8 @@ judge-row-spec =
     feeds-requires
     judge-stretch-requires
     taken-requires
-    cast-t22
+    cast-t23
+    cast-t24
     same-length
     returns
     judge-plain-requires

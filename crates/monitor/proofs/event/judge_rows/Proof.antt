@@ -10,7 +10,7 @@ use Rattle.rules.specs.Limits.{rowLimit}
 use Rattle.rules.specs.Rows.{rowsOf}
 use Rattle.rules.specs.Stretches.{offset}
 use Rattle.soundness.specs.declared.record.Record.{Record}
-use Rattle.monitor.specs.Event.{truthsAfter, countsWith, wordsDone, storeWith}
+use Rattle.monitor.specs.Event.{truthsAfter, entriesWith, wordsDone, storeWith}
 use Rattle.soundness.specs.Setup.{setupOf}
 use Rattle.monitor.specs.Step.{event}
 use Rattle.monitor.specs.Core.{recordMet, momentMet, AfterRows}
@@ -20,19 +20,19 @@ use Rattle.monitor.proofs.event.judge_rows.Statement.{statement}
 use Rattle.monitor.proofs.event.judge_rows.Tie as tie
 
 abbrev Inv-loop : tie.InvT-loop
-Inv-loop table store₀ rows arrival found truths₀ counts₀ from₀ row₀ store truths counts from row =
+Inv-loop table store₀ rows arrival found truths₀ counts₀ firsts₀ from₀ row₀ store truths counts firsts from row =
     (row ≤ rows)
     × (from ≡ offset table row)
-    × AfterRows (momentMet table store₀ arrival rows found counts₀) row truths counts store
+    × AfterRows (momentMet table store₀ arrival rows found counts₀ firsts₀) row truths counts firsts store
 
 abbrev μ-loop : tie.MeasureT-loop
-μ-loop table store₀ rows arrival found truths₀ counts₀ from₀ row₀ store truths counts from row = rows - row
+μ-loop table store₀ rows arrival found truths₀ counts₀ firsts₀ from₀ row₀ store truths counts firsts from row = rows - row
 
 loop-holds : tie.Need-loop-holds Inv-loop μ-loop
-unfolding offset truthsAfter countsWith wordsDone storeWith
+unfolding offset truthsAfter entriesWith wordsDone storeWith
 loop-holds c =
     let start = c .before .before in
-    (omega arith, refl, record { truths-are = start .pre .1 .1; left = record { counts-are = refl; store-is = refl } })
+    (omega arith, refl, record { truths-are = start .pre .1 .1; left = record { counts-are = refl; firsts-are = refl; store-is = refl } })
 
 -- What was checked before, and the record that it was checked of.
 module _ (c : tie.At-loop Inv-loop μ-loop) where
@@ -40,7 +40,7 @@ module _ (c : tie.At-loop Inv-loop μ-loop) where
   at-start = c .before .before .before
 
   abbrev kept : Record
-  kept = recordMet (at-start .args .arrival) (at-start .args .rows) (now (at-start .args .found)) (now (at-start .args .counts))
+  kept = recordMet (at-start .args .arrival) (at-start .args .rows) (now (at-start .args .found)) (now (at-start .args .counts)) (now (at-start .args .firsts))
 
   met : Accepted (now (at-start .args .table)) (now (at-start .args .store)) kept (at-start .args .arrival .time)
   met =
@@ -62,17 +62,23 @@ mul-count c = omega (arith, few (c .before))
 element-copy-out-count : tie.Need-element-copy-out-count Inv-loop μ-loop
 element-copy-out-count c = few (c .before)
 
+mul-first : tie.Need-mul-first Inv-loop μ-loop
+mul-first c = omega (arith, few (c .before .before))
+
+element-copy-out-first : tie.Need-element-copy-out-first Inv-loop μ-loop
+element-copy-out-first c = few (c .before .before)
+
 judge-row-requires : tie.Need-judge-row-requires Inv-loop μ-loop
 judge-row-requires c κs =
-    let n = c .before .before .before in
+    let n = c .before .before .before .before in
     let d = n .before in
-    row-ready _ _ _ _ _ (met (d .before)) (lower d) (d .before .loop .inv .1) (d .before .loop .inv .2) (n .numbers-at .ensures) refl
+    row-ready _ _ _ _ _ (met (d .before)) (lower d) (d .before .loop .inv .1) (d .before .loop .inv .2) (n .numbers-at .ensures) refl refl
 
 byte-of-requires : tie.Need-byte-of-requires Inv-loop μ-loop
 byte-of-requires c κs = search needs
 
 abbrev turn-of : tie.After-byte-of Inv-loop μ-loop → tie.In-loop Inv-loop μ-loop
-turn-of c = c .before .before .before .before .before .before .before .before
+turn-of c = c .before .before .before .before .before .before .before .before .before
 
 element-write-truths : tie.Need-element-write-truths Inv-loop μ-loop
 element-write-truths c = few (turn-of c)
@@ -83,6 +89,12 @@ mul-counts c = omega (arith, few (turn-of c))
 element-write-counts : tie.Need-element-write-counts Inv-loop μ-loop
 element-write-counts c = few (turn-of c)
 
+mul-firsts : tie.Need-mul-firsts Inv-loop μ-loop
+mul-firsts c = omega (arith, few (turn-of c))
+
+element-write-firsts : tie.Need-element-write-firsts Inv-loop μ-loop
+element-write-firsts c = few (turn-of c)
+
 add-row : tie.Need-add-row Inv-loop μ-loop
 add-row c = omega (arith, few (turn-of c))
 
@@ -92,12 +104,12 @@ loop-less c = omega arith
 loop-again : tie.Need-loop-again Inv-loop μ-loop
 loop-again c =
     let j = c .before .before .before in
-    let n = j .before .before .before .before in
+    let n = j .before .before .before .before .before in
     let d = n .before in (
       omega arith,
-      next-place _ _ _ _ _ (met (d .before)) (lower d) (d .before .loop .inv .1) (d .before .loop .inv .2) (n .numbers-at .ensures) refl
+      next-place _ _ _ _ _ (met (d .before)) (lower d) (d .before .loop .inv .1) (d .before .loop .inv .2) (n .numbers-at .ensures) refl refl
           (j .judge-row .ensures) (c .byte-of .ensures),
-      row-turn _ _ _ _ _ (met (d .before)) (lower d) (d .before .loop .inv .1) (d .before .loop .inv .2) (n .numbers-at .ensures) refl
+      row-turn _ _ _ _ _ (met (d .before)) (lower d) (d .before .loop .inv .1) (d .before .loop .inv .2) (n .numbers-at .ensures) refl refl
           (j .judge-row .ensures) (c .byte-of .ensures),
     )
 
@@ -121,11 +133,15 @@ judge-rows-spec =
     numbers-at-requires
     mul-count
     element-copy-out-count
+    mul-first
+    element-copy-out-first
     judge-row-requires
     byte-of-requires
     element-write-truths
     mul-counts
     element-write-counts
+    mul-firsts
+    element-write-firsts
     add-row
     loop-less
     loop-again

@@ -1,13 +1,13 @@
 -- `monitor::event::update_in` meets its contract: what `update` leaves of a packed part that has room (`update-laid`), said of
 -- the store (`post-is`). Assumes nothing.
-use mathlib.Core.Path.{_≡_}
-use Prim.Native.Nat.{_*_, _-_, _≤_}
+use mathlib.Core.Path.{_≡_, refl, _∙_}
+use Prim.Native.Nat.{_-_, _≤_}
 use borrow.Author.Needs.{needs}
 use lib.ListN.{length}
 use borrow.Rule.Slice.PartMut.{mid-len, post-is}
 use Rattle.meaning.specs.Spans.{_to_}
-use Rattle.spans.specs.Layout.{spanWords, endAt}
-use Rattle.spans.proofs.UpdateLaws.{update-laid, update-told}
+use Rattle.spans.specs.Layout.{endAt, placesOf}
+use Rattle.spans.proofs.UpdateLaws.{laid-ring, update-placed, update-laid, update-told}
 use Rattle.monitor.specs.Core.{stretchIn, updateIn}
 use Rattle.monitor.proofs.event.update_in.Statement.{statement}
 use Rattle.monitor.proofs.event.update_in.Tie as tie
@@ -38,13 +38,15 @@ returns c =
     let span = args .first to endAt (args .last) in
     let size : length part ≡ args .end - args .from = mid-len (args .from) (args .end) (args .store .now) (start .pre .inside) in
     let S = updateIn (args .from) (args .end) (args .store .now) (args .held) (args .keep) (args .feed) (args .time) span in
-    let room : spanWords * length S ≤ length part = rw size (start .pre .room) in
+    let room : length S ≤ placesOf (length part) = rw size (start .pre .room) in
     let done = c .before .before .update .ensures in
-    let laid = update-laid (args .keep) (args .feed) (args .time) span (start .pre .laid) room done in
+    let laid = update-laid part (args .held) (start .pre .laid) (args .keep) (args .feed) (args .time) span room done in
+    let placed = update-placed part (args .held) (start .pre .laid) (args .keep) (args .feed) (args .time) span room done in
     record {
-      written = rw (post-is (args .from) (args .end) (args .store .now) (start .pre .order), laid .written, size);
+      written = rw (post-is (args .from) (args .end) (args .store .now) (start .pre .order), laid-ring laid, size);
       counted = laid .counted;
-      told = update-told (args .keep) (args .feed) (args .time) span (start .pre .laid) room done (start .pre .rises);
+      placed = placed ∙ rw size refl;
+      told = update-told part (args .held) (start .pre .laid) (args .keep) (args .feed) (args .time) span room done (start .pre .rises);
     }
 
 pub update-in-spec : {M : Type 1} → statement M

@@ -1,8 +1,7 @@
 -- `monitor::heartbeat::clip_in` meets its contract: what `clip` leaves of a part that lays out its spans, said of the store (`clipped-in`). Assumes
 -- nothing.
-use native.Mathlib.Omega.{arith}
 use borrow.Author.Needs.{needs}
-use Rattle.monitor.proofs.ClippingLaws.{clipped-in, clipped-fewer}
+use Rattle.monitor.proofs.ClippingLaws.{clipped-in}
 use Rattle.monitor.proofs.heartbeat.clip_in.Statement.{statement}
 use Rattle.monitor.proofs.heartbeat.clip_in.Tie as tie
 
@@ -21,18 +20,12 @@ part-clip-end c = search needs
 clip-requires : tie.Need-clip-requires
 clip-requires c κs = search needs
 
-cast-result : tie.Need-cast-result
-cast-result c =
-    let done = c .before .before .before in
-    let start = done .before .before .before in
-    record { fits = omega (arith, clipped-fewer _ _ _ _ _ (start .pre) (done .clip .ensures), start .fits .count .fits) }
-
 same-length : tie.Need-same-length
 same-length c = search needs
 
 returns : tie.Need-returns
 returns c =
-    let done = c .before .before .before in
+    let done = c .before .before in
     clipped-in _ _ _ _ _ (done .before .before .before .pre) (done .clip .ensures)
 
 pub clip-in-spec : {M : Type 1} → statement M
@@ -44,6 +37,5 @@ clip-in-spec =
     part-clip-start
     part-clip-end
     clip-requires
-    cast-result
     same-length
     returns)

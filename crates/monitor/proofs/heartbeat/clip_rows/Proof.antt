@@ -1,32 +1,32 @@
 -- `monitor::heartbeat::clip_rows` meets its contract. The loop's invariant: the counts and the store are those where the rows passed are clipped, and the
 -- next stretch begins where theirs end; one turn is `clip-turn`. The measure is what is left of the rows. Assumes nothing.
 use mathlib.Core.Path.{_≡_, refl, ap, _∙_}
-use Prim.Native.Nat.{_+_, _-_, _≤_, _<_}
+use Prim.Native.Nat.{_+_, _-_, _^_, _≤_, _<_}
 use native.Mathlib.Omega.{arith}
 use lib.ListN.{length, getD}
 use denote.Ref.{now}
 use borrow.Author.Needs.{needs}
 use Rattle.rules.specs.Limits.{rowLimit}
 use Rattle.rules.specs.Stretches.{offset}
-use Rattle.monitor.specs.Event.{spansClipped, countsWith, wordsDone, storeWith}
+use Rattle.monitor.specs.Event.{ringClipped, entriesWith, wordsDone, storeWith}
 use Rattle.monitor.specs.Core.{ClipReady, SpansLeft}
 use Rattle.soundness.specs.Record.{heldOf}
-use Rattle.monitor.proofs.ClippingLaws.{length-clipped, clip-ready, clip-turn, clip-next}
+use Rattle.monitor.proofs.ClippingLaws.{length-clipped, clip-ready, clip-counts, clip-places, clip-turn, clip-next}
 use Rattle.monitor.proofs.heartbeat.clip_rows.Statement.{statement}
 use Rattle.monitor.proofs.heartbeat.clip_rows.Tie as tie
 
 abbrev Inv-loop : tie.InvT-loop
-Inv-loop table store₀ rows time counts₀ from₀ row₀ store counts from row =
+Inv-loop table store₀ rows time counts₀ firsts₀ from₀ row₀ store counts firsts from row =
     (row ≤ rows)
     × (from ≡ offset table row)
-    × SpansLeft table store₀ counts₀ (spansClipped table store₀ counts₀ time) row counts store
+    × SpansLeft table store₀ counts₀ firsts₀ (ringClipped table store₀ counts₀ firsts₀ time) row counts firsts store
 
 abbrev μ-loop : tie.MeasureT-loop
-μ-loop table store₀ rows time counts₀ from₀ row₀ store counts from row = rows - row
+μ-loop table store₀ rows time counts₀ firsts₀ from₀ row₀ store counts firsts from row = rows - row
 
 loop-holds : tie.Need-loop-holds Inv-loop μ-loop
-unfolding offset countsWith wordsDone storeWith
-loop-holds c = (omega arith, refl, record { counts-are = refl; store-is = refl })
+unfolding offset entriesWith wordsDone storeWith
+loop-holds c = (omega arith, refl, record { counts-are = refl; firsts-are = refl; store-is = refl })
 
 numbers-at-requires : tie.Need-numbers-at-requires Inv-loop μ-loop
 numbers-at-requires c κs = search needs
@@ -36,7 +36,7 @@ words-requires c κs = search needs
 
 -- The store keeps its length.
 same-size : (c : tie.At-loop Inv-loop μ-loop) → length (c .loop .store) ≡ length (now (c .before .before .before .args .store))
-same-size c = ap length (c .loop .inv .2 .store-is) ∙ length-clipped _ _ _ _ _ (c .before .before .before .pre) _ (c .loop .inv .0)
+same-size c = ap length (c .loop .inv .2 .store-is) ∙ length-clipped _ _ _ _ _ _ (c .before .before .before .pre) _ (c .loop .inv .0)
 
 -- The row is one of the table's, and its stretch can be clipped.
 few : (c : tie.In-loop Inv-loop μ-loop) → c .before .loop .row < rowLimit
@@ -50,10 +50,10 @@ module _ (c : tie.After-words Inv-loop μ-loop) where
   at-start = turn .before .before .before .before
 
   ready : ClipReady (turn .before .loop .from) (turn .before .loop .from + c .words .result) (turn .before .loop .store)
-      (heldOf (getD (turn .before .loop .counts) (turn .before .loop .row) 0))
+      (heldOf (getD (turn .before .loop .firsts) (turn .before .loop .row) 0) (getD (turn .before .loop .counts) (turn .before .loop .row) 0))
   ready =
-      clip-ready _ _ _ _ _ (at-start .pre) (omega arith) (turn .before .loop .inv .1) (turn .before .loop .inv .2)
-      (c .before .numbers-at .ensures) (c .words .ensures) refl
+      clip-ready _ _ _ _ _ _ (at-start .pre) (omega arith) (turn .before .loop .inv .1) (turn .before .loop .inv .2)
+      (c .before .numbers-at .ensures) (c .words .ensures) refl refl
 
 add-end : tie.Need-add-end Inv-loop μ-loop
 add-end c = omega (arith, ready c .inside, same-size (turn c .before))
@@ -64,32 +64,67 @@ mul-count c = omega (arith, few (turn c))
 element-copy-out-count : tie.Need-element-copy-out-count Inv-loop μ-loop
 element-copy-out-count c = few (turn c)
 
-clip-in-requires : tie.Need-clip-in-requires Inv-loop μ-loop
-clip-in-requires c κs = ready (c .before .before)
+mul-first : tie.Need-mul-first Inv-loop μ-loop
+mul-first c = omega (arith, few (turn (c .before)))
 
-abbrev words-of : tie.After-slice-known2 Inv-loop μ-loop → tie.After-words Inv-loop μ-loop
-words-of c = c .before .before .before .before .before
+element-copy-out-first : tie.Need-element-copy-out-first Inv-loop μ-loop
+element-copy-out-first c = few (turn (c .before))
+
+clip-in-requires : tie.Need-clip-in-requires Inv-loop μ-loop
+clip-in-requires c κs = ready (c .before .before .before)
+
+-- What is left of the row's spans.
+module _ (c : tie.After-clip-in Inv-loop μ-loop) where
+  abbrev words-of : tie.After-words Inv-loop μ-loop
+  words-of = c .before .before .before .before
+
+  abbrev loop-of : tie.At-loop Inv-loop μ-loop
+  loop-of = turn words-of .before
+
+  -- It is counted by numbers of the record.
+  counts-fit : c .clip-in .result .count < 2 ^ 32
+  counts-fit =
+      clip-counts _ _ _ _ _ _ (at-start words-of .pre) (omega arith) (loop-of .loop .inv .1) (loop-of .loop .inv .2)
+      (words-of .before .numbers-at .ensures) (words-of .words .ensures) refl refl (c .clip-in .ensures)
+
+  places-fit : c .clip-in .result .first < 2 ^ 32
+  places-fit =
+      clip-places _ _ _ _ _ _ (at-start words-of .pre) (omega arith) (loop-of .loop .inv .1) (loop-of .loop .inv .2)
+      (words-of .before .numbers-at .ensures) (words-of .words .ensures) refl refl (c .clip-in .ensures)
+
+cast-counts : tie.Need-cast-counts Inv-loop μ-loop
+cast-counts c = record { fits = counts-fit (c .before .before .before) }
 
 mul-counts : tie.Need-mul-counts Inv-loop μ-loop
-mul-counts c = omega (arith, few (turn (words-of c)))
+mul-counts c = omega (arith, few (turn (words-of (c .before .before .before))))
 
 element-write-counts : tie.Need-element-write-counts Inv-loop μ-loop
-element-write-counts c = few (turn (words-of c))
+element-write-counts c = few (turn (words-of (c .before .before .before)))
+
+cast-firsts : tie.Need-cast-firsts Inv-loop μ-loop
+cast-firsts c = record { fits = places-fit (c .before .before .before .before) }
+
+mul-firsts : tie.Need-mul-firsts Inv-loop μ-loop
+mul-firsts c = omega (arith, few (turn (words-of (c .before .before .before .before))))
+
+element-write-firsts : tie.Need-element-write-firsts Inv-loop μ-loop
+element-write-firsts c = few (turn (words-of (c .before .before .before .before)))
 
 add-row : tie.Need-add-row Inv-loop μ-loop
-add-row c = omega (arith, few (turn (words-of c)))
+add-row c = omega (arith, few (turn (words-of (c .before .before .before .before))))
 
 loop-less : tie.Need-loop-less Inv-loop μ-loop
 loop-less c = omega arith
 
 loop-again : tie.Need-loop-again Inv-loop μ-loop
 loop-again c =
-    let w = words-of c in
-    let l = turn w .before .loop in (
+    let d = c .before .before .before .before in
+    let w = words-of d in
+    let l = loop-of d .loop in (
       omega arith,
-      clip-next _ _ _ _ _ (at-start w .pre) (omega arith) (l .inv .1) (l .inv .2) (w .before .numbers-at .ensures) (w .words .ensures) refl,
-      clip-turn _ _ _ _ _ (at-start w .pre) (omega arith) (l .inv .1) (l .inv .2) (w .before .numbers-at .ensures) (w .words .ensures) refl
-          (c .before .before .clip-in .ensures),
+      clip-next _ _ _ _ _ _ (at-start w .pre) (omega arith) (l .inv .1) (l .inv .2) (w .before .numbers-at .ensures) (w .words .ensures) refl refl,
+      clip-turn _ _ _ _ _ _ (at-start w .pre) (omega arith) (l .inv .1) (l .inv .2) (w .before .numbers-at .ensures) (w .words .ensures) refl refl
+          (d .clip-in .ensures),
     )
 
 same-length : tie.Need-same-length Inv-loop μ-loop
@@ -112,9 +147,15 @@ clip-rows-spec =
     add-end
     mul-count
     element-copy-out-count
+    mul-first
+    element-copy-out-first
     clip-in-requires
+    cast-counts
     mul-counts
     element-write-counts
+    cast-firsts
+    mul-firsts
+    element-write-firsts
     add-row
     loop-less
     loop-again

@@ -14,7 +14,7 @@ same-length : tie.Need-same-length
 same-length c = search needs
 
 returns : tie.Need-returns
-returns c = rw (c .give .ensures .0, c .give .ensures .1) (step-given _ _ _ _ _ _ _ _ (c .before .before .before .judge .ensures))
+returns c = rw (c .give .ensures .0, c .give .ensures .1) (step-given _ _ _ _ _ _ _ _ _ (c .before .before .before .judge .ensures))
 
 pub event-spec : {M : Type 1} → statement M
 event-spec = tie.close (tie.spec judge-requires give-requires same-length returns)

@@ -19,8 +19,8 @@ same-length c = search needs
 returns : tie.Need-returns
 returns c =
     let j = c .before .before .before in
-    let t = j .before .before .before .before .before .before in
-    rw (c .give .ensures .0, c .give .ensures .1, frame-at, ← (t .time-shown .ensures)) (step-given _ _ _ _ _ _ _ _ (j .judge .ensures))
+    let t = j .before .before .before .before .before .before .before .before in
+    rw (c .give .ensures .0, c .give .ensures .1, frame-at, ← (t .time-shown .ensures)) (step-given _ _ _ _ _ _ _ _ _ (j .judge .ensures))
 
 pub frame-spec : {M : Type 1} → statement M
 frame-spec =

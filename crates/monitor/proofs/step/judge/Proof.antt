@@ -26,10 +26,10 @@ enum-known-checked-2 c = search needs
 -- The record fits, and so its row count is the table's.
 module _ (c : tie.After-known-told2) where
   abbrev at-start : tie.Start
-  at-start = c .before .before .before .before .before .before .before .before .before .before
+  at-start = c .before .before .before .before .before .before .before .before .before .before .before
 
   abbrev kept : Record
-  kept = recordMet (at-start .args .arrival) (at-start .args .count) (now (at-start .args .truths)) (now (at-start .args .counts))
+  kept = recordMet (at-start .args .arrival) (at-start .args .count) (now (at-start .args .truths)) (now (at-start .args .counts)) (now (at-start .args .firsts))
 
   fits : Fit (setupOf (now (at-start .args .table)) (now (at-start .args .list))) (now (at-start .args .store)) kept (c .before .checked2 .given .0 .0)
   fits = fit-gives _ _ _ _ _ (sym (ap checkReply (c .before .checked2 .given .1)) ∙ c .before .before .before .fit .ensures)
@@ -42,7 +42,7 @@ cast-judge-sound c = search needs
 
 judge-sound-requires : tie.Need-judge-sound-requires
 judge-sound-requires c κs =
-    let known = c .before .before .before in
+    let known = c .before .before .before .before in
     ((fits known .ready, fits known .counted), rw (← (counted known)) (fits known .sound))
 
 same-length : tie.Need-same-length
@@ -52,7 +52,7 @@ returns : tie.Need-returns
 returns c =
     let met = c .before .before in
     rw (c .refused .ensures)
-    (left-refused _ _ (met .before .before .before .before .before .before .before .before .before .args .arrival) _ _ _ _ _
+    (left-refused _ _ (met .before .before .before .before .before .before .before .before .before .before .args .arrival) _ _ _ _ _ _
     (fit-refused _ _ _ _ _ (sym (ap checkReply (met .checked .given .1)) ∙ met .before .before .fit .ensures)))
 
 same-length-2 : tie.Need-same-length-2
@@ -61,7 +61,7 @@ same-length-2 c = search needs
 returns-2 : tie.Need-returns-2
 returns-2 c =
     let j = c .before .before in
-    rw (counted (j .before .before .before .before)) (j .judge-sound .ensures)
+    rw (counted (j .before .before .before .before .before)) (j .judge-sound .ensures)
 
 pub judge-spec : {M : Type 1} → statement M
 judge-spec =

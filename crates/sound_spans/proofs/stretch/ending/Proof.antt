@@ -1,109 +1,97 @@
--- `sound_spans::stretch::ending` meets its contract. The loop: the answer from place i on is the whole answer, where what a span may begin
--- from is `former + gap`; one turn is `sound-next`. The measure is what is left of the count. Assumes nothing.
-use mathlib.Core.Bool.{_&&_}
-use mathlib.Core.Path.{_≡_, refl, sym, _∙_}
-use Prim.Native.Nat.{_+_, _*_, _-_}
-use native.Mathlib.Nat.{add-zero, sub-zero}
+-- `sound_spans::stretch::ending` meets its contract: the spans are one walk, or two of which the second goes on from the first (`straight-sound`,
+-- `round-sound`). Assumes nothing.
+use mathlib.Core.Path.{refl, sym, _∙_}
+use Prim.Native.Nat.{_*_, _-_, _≤_}
 use native.Mathlib.Omega.{arith}
-use lib.ListN.{getD}
-use Rattle.spans.specs.Layout.{spansFrom, spansHeld}
-use Rattle.sound_spans.specs.StretchSound.{soundSpan?, soundFrom?}
-use Rattle.sound_spans.proofs.SoundSteps.{sound-next, sound-none}
+use borrow.Author.Needs.{needs}
+use lib.ListN.{length}
+use Rattle.spans.proofs.RoundLaws.{places-fit}
+use Rattle.sound_spans.proofs.SoundSteps.{straight-sound, round-sound}
 use Rattle.sound_spans.proofs.stretch.ending.Statement.{statement}
 use Rattle.sound_spans.proofs.stretch.ending.Tie as tie
 
-abbrev Inv-loop : tie.InvT-loop
-Inv-loop words time latest long count former₀ gap₀ i₀ former gap i =
-    soundFrom? time time latest long (spansFrom words 0 count)
-    ≡ soundFrom? (former + gap) time latest long (spansFrom words i (count - i))
+-- The words have the places.
+room-fits : (c : tie.After-places) → 2 * c .places .result ≤ length (c .before .before .args .words .now)
+room-fits c = rw (c .places .ensures) (places-fit (length (c .before .before .args .words .now)))
 
-abbrev μ-loop : tie.MeasureT-loop
-μ-loop words time latest long count former₀ gap₀ i₀ former gap i = count - i
+places-requires : tie.Need-places-requires
+places-requires c κs = search needs
 
-loop-holds : tie.Need-loop-holds Inv-loop μ-loop
-loop-holds c = rw (add-zero, sub-zero) refl
+sub-rest : tie.Need-sub-rest
+sub-rest c = search needs
 
-mul-first : tie.Need-mul-first Inv-loop μ-loop
-mul-first c = omega arith
+add-end : tie.Need-add-end
+add-end c = search needs
 
-mul-first-2 : tie.Need-mul-first-2 Inv-loop μ-loop
-mul-first-2 c = omega arith
+rising-requires : tie.Need-rising-requires
+rising-requires c κs = omega (arith, room-fits (c .before .before .before .before))
 
-shared-slice-read-first : tie.Need-shared-slice-read-first Inv-loop μ-loop
-shared-slice-read-first c = omega arith
-
-mul-last : tie.Need-mul-last Inv-loop μ-loop
-mul-last c = omega arith
-
-add-last : tie.Need-add-last Inv-loop μ-loop
-add-last c = omega arith
-
-mul-last-2 : tie.Need-mul-last-2 Inv-loop μ-loop
-mul-last-2 c = omega arith
-
-shared-slice-read-last : tie.Need-shared-slice-read-last Inv-loop μ-loop
-shared-slice-read-last c = omega arith
-
-sound-span-requires : tie.Need-sound-span-requires Inv-loop μ-loop
-sound-span-requires c κs = tt
-
-add-i : tie.Need-add-i Inv-loop μ-loop
-add-i c = omega arith
-
-loop-less : tie.Need-loop-less Inv-loop μ-loop
-loop-less c = omega arith
-
--- A turn: the whole answer is that of the span at its place and of those after.
-turn-sound : (c : tie.After-sound-span Inv-loop μ-loop) → (let loop = c .before .before .before .before .loop in
-    let args = c .before .before .before .before .before .before .args in
-    let first = getD (args .words .now) (2 * loop .i) 0 in
-    let last = getD (args .words .now) (2 * loop .i + 1) 0 in
-    soundFrom? (args .time) (args .time) (args .latest) (args .long) (spansHeld (args .words .now) (args .held))
-    ≡ (soundSpan? (loop .former + loop .gap) (args .time) (args .latest) (args .long) first last
-    && soundFrom? (last + 2) (args .time) (args .latest) (args .long) (spansFrom (args .words .now) (loop .i + 1) (args .held .count - (loop .i + 1)))))
-turn-sound c =
-    let turn = c .before .before .before in
-    let loop = turn .before .loop in
-    let args = turn .before .before .before .args in
-    loop .inv
-    ∙ sound-next (args .words .now) (loop .i) (args .held .count) (loop .former + loop .gap) (args .time) (args .latest) (args .long)
-    (turn .loop-test .taken) (omega arith)
-
-loop-again : tie.Need-loop-again Inv-loop μ-loop
-loop-again c =
-    turn-sound (c .before)
-    ∙ rw (← c .before .sound-span .ensures, c .if1 .taken) refl
-
-returns : tie.Need-returns Inv-loop μ-loop
+returns : tie.Need-returns
 returns c =
-    sym
-    (turn-sound (c .before)
-    ∙ rw (← c .before .sound-span .ensures, c .if1 .left) refl)
+    let room = c .before .before .before .before .before in
+    let start = room .before .before in
+    let args = start .args in
+    c .rising .ensures
+    ∙ sym
+    (straight-sound (args .words .now) (args .held) (start .pre .0) (room .places .result) (args .time) (args .latest) (args .long) (room .places .ensures)
+    (start .pre .1) (omega arith))
 
-returns-2 : tie.Need-returns-2 Inv-loop μ-loop
+rising-requires-2 : tie.Need-rising-requires-2
+rising-requires-2 c κs = omega (arith, room-fits (c .before .before .before))
+
+mul-former : tie.Need-mul-former
+mul-former c = omega (arith, room-fits (c .before .before .before .before .before))
+
+sub-former : tie.Need-sub-former
+sub-former c = search needs
+
+mul-former-2 : tie.Need-mul-former-2
+mul-former-2 c = omega (arith, room-fits (c .before .before .before .before .before))
+
+shared-slice-read-former : tie.Need-shared-slice-read-former
+shared-slice-read-former c = omega (arith, room-fits (c .before .before .before .before .before .before))
+
+sub-rising : tie.Need-sub-rising
+sub-rising c = search needs
+
+rising-requires-3 : tie.Need-rising-requires-3
+rising-requires-3 c κs = omega (arith, room-fits (c .before .before .before .before .before .before .before))
+
+returns-2 : tie.Need-returns-2
 returns-2 c =
-    let args = c .before .before .before .args in
+    let room = c .before .before .before .before .before .before .before .before in
+    let start = room .before .before in
+    let args = start .args in
     sym
-    (c .before .loop .inv
-    ∙ sound-none (args .words .now) (c .before .loop .i) (args .held .count) _ (args .time) (args .latest) (args .long) (c .loop-test .left))
+    (round-sound (args .words .now) (args .held) (start .pre .0) (room .places .result) (args .time) (args .latest) (args .long) (room .places .ensures)
+    (start .pre .1) (omega arith)
+    ∙ rw (← (c .before .before .before .before .rising2 .ensures), c .before .before .before .if2 .taken, ← (c .rising3 .ensures)) refl)
+
+returns-3 : tie.Need-returns-3
+returns-3 c =
+    let room = c .before .before .before .before .before in
+    let start = room .before .before in
+    let args = start .args in
+    sym
+    (round-sound (args .words .now) (args .held) (start .pre .0) (room .places .result) (args .time) (args .latest) (args .long) (room .places .ensures)
+    (start .pre .1) (omega arith)
+    ∙ rw (← (c .before .rising2 .ensures), c .if2 .left) refl)
 
 pub ending-spec : {M : Type 1} → statement M
 ending-spec =
     tie.close
     (tie.spec
-    Inv-loop
-    μ-loop
-    loop-holds
-    mul-first
-    mul-first-2
-    shared-slice-read-first
-    mul-last
-    add-last
-    mul-last-2
-    shared-slice-read-last
-    sound-span-requires
-    add-i
-    loop-less
-    loop-again
+    places-requires
+    sub-rest
+    add-end
+    rising-requires
     returns
-    returns-2)
+    rising-requires-2
+    mul-former
+    sub-former
+    mul-former-2
+    shared-slice-read-former
+    sub-rising
+    rising-requires-3
+    returns-2
+    returns-3)

@@ -20,7 +20,7 @@ module _ (c : tie.Else1) where
 
   abbrev kept : Record
   kept =
-      recordOf (at-start .args .seen) (at-start .args .clock) (at-start .args .last) (at-start .args .count) (now (at-start .args .truths)) (now (at-start .args .counts))
+      recordOf (at-start .args .seen) (at-start .args .clock) (at-start .args .last) (at-start .args .count) (now (at-start .args .truths)) (now (at-start .args .counts)) (now (at-start .args .firsts))
 
   counted : at-start .args .count ≡ rowsOf (now (at-start .args .table))
   counted = c .if1 .left ∙ at-start .pre .1
@@ -49,7 +49,7 @@ rows-told : (c : tie.After-sound-rows)
     ≡ c .sound-rows .result
 rows-told c =
     let e = c .before .before .before in
-    rows-counted _ _ _ _ _ _ _ _ _ (e .if1 .left) (at-start e .pre .1) (c .sound-rows .ensures)
+    rows-counted _ _ _ _ _ _ _ _ _ _ (e .if1 .left) (at-start e .pre .1) (c .sound-rows .ensures)
 
 zero-past-requires : tie.Need-zero-past-requires
 zero-past-requires c κs =

@@ -1,5 +1,5 @@
--- `soundness::soundness::sound_row` meets its contract: its two tests, one after the other; where there are no spans to need, the stretch has no words and the
--- count is 0. Assumes nothing.
+-- `soundness::soundness::sound_row` meets its contract: its two tests, one after the other; where there are no spans to need, the stretch has no words, the
+-- count is 0, and the first place decides. Assumes nothing.
 use mathlib.Core.Bool.{true}
 use mathlib.Core.Path.{_≡_}
 use Prim.Native.Nat.{_≤_}
@@ -23,7 +23,7 @@ returns c =
     rw (← (pre .0), ← (d .sound-entry .ensures)) (c .before .if1 .taken)
     in
     let within : args .count ≤ args .spans = rw (pre .0) (entry-within (args .seen) (args .truth) (args .count) (args .numbers) entry) in
-    rw (entry, bare-sound (now (args .words)) (args .count) (args .clock) (args .last) (args .numbers) (omega (arith, pre)) (omega arith))
+    rw (entry, bare-sound (now (args .words)) (args .first) (args .count) (args .clock) (args .last) (args .numbers) (omega (arith, pre)) (omega arith))
 
 sound-stretch-requires : tie.Need-sound-stretch-requires
 sound-stretch-requires c κs = search needs

@@ -22,11 +22,11 @@ use Rattle.soundness.proofs.soundness.sound_rows.Statement.{statement}
 use Rattle.soundness.proofs.soundness.sound_rows.Tie as tie
 
 abbrev Inv-loop : tie.InvT-loop
-Inv-loop table store rows seen clock last truths counts from₀ row₀ from row =
-    (row ≤ rows) × (from ≡ offset table row) × (every row (soundRow? table store (recordOf seen clock last rows truths counts)) ≡ true)
+Inv-loop table store rows seen clock last truths counts firsts from₀ row₀ from row =
+    (row ≤ rows) × (from ≡ offset table row) × (every row (soundRow? table store (recordOf seen clock last rows truths counts firsts)) ≡ true)
 
 abbrev μ-loop : tie.MeasureT-loop
-μ-loop table store rows seen clock last truths counts from₀ row₀ from row = rows - row
+μ-loop table store rows seen clock last truths counts firsts from₀ row₀ from row = rows - row
 
 loop-holds : tie.Need-loop-holds Inv-loop μ-loop
 unfolding every offset
@@ -48,7 +48,7 @@ module _ (c : tie.After-spans Inv-loop μ-loop) where
 
   abbrev kept : Record
   kept =
-      recordOf (at-start .args .seen) (at-start .args .clock) (at-start .args .last) (at-start .args .rows) (now (at-start .args .truths)) (now (at-start .args .counts))
+      recordOf (at-start .args .seen) (at-start .args .clock) (at-start .args .last) (at-start .args .rows) (now (at-start .args .truths)) (now (at-start .args .counts)) (now (at-start .args .firsts))
 
   few : c .before .before .before .loop .row < rowLimit
   few = omega (arith, ready .passes .few-rows)
@@ -91,9 +91,15 @@ mul-sound-row-2 c = omega (arith, few (c .before .before))
 element-copy-out-sound-row-2 : tie.Need-element-copy-out-sound-row-2 Inv-loop μ-loop
 element-copy-out-sound-row-2 c = few (c .before .before)
 
+mul-sound-row-3 : tie.Need-mul-sound-row-3 Inv-loop μ-loop
+mul-sound-row-3 c = omega (arith, few (c .before .before .before))
+
+element-copy-out-sound-row-3 : tie.Need-element-copy-out-sound-row-3 Inv-loop μ-loop
+element-copy-out-sound-row-3 c = few (c .before .before .before)
+
 sound-row-requires : tie.Need-sound-row-requires Inv-loop μ-loop
 sound-row-requires c κs =
-    let s = c .before .before .before in
+    let s = c .before .before .before .before in
     let from = s .before .before .before .loop .from in
     let all : from + spanWords * s .spans .result - from ≡ spanWords * s .spans .result = omega arith in (
       s .spans .ensures,
@@ -105,10 +111,10 @@ sound-row-requires c κs =
 -- The answer is the row's.
 told : (c : tie.After-sound-row Inv-loop μ-loop)
     → c .sound-row .result
-    ≡ soundRow? (now (at-start (c .before .before .before .before) .args .table)) (now (at-start (c .before .before .before .before) .args .store))
-    (kept (c .before .before .before .before)) (c .before .before .before .before .before .before .before .loop .row)
+    ≡ soundRow? (now (at-start (c .before .before .before .before .before) .args .table)) (now (at-start (c .before .before .before .before .before) .args .store))
+    (kept (c .before .before .before .before .before)) (c .before .before .before .before .before .before .before .before .loop .row)
 told c =
-    let s = c .before .before .before .before in
+    let s = c .before .before .before .before .before in
     row-told (now (at-start s .args .table)) (now (at-start s .args .store)) (kept s) (s .before .before .before .loop .row)
     (s .before .numbers-at .ensures) (s .before .before .before .loop .inv .1) (wide s) (c .sound-row .ensures)
 
@@ -120,7 +126,7 @@ loop-less c = omega arith
 
 loop-again : tie.Need-loop-again Inv-loop μ-loop
 loop-again c =
-    let s = c .before .before .before .before .before in (
+    let s = c .before .before .before .before .before .before in (
       omega arith,
       offset-next _ _ (s .before .numbers-at .ensures) (s .before .before .before .loop .inv .1) (wide s),
       every-more _ _ (s .before .before .before .loop .inv .2) (sym (told (c .before)) ∙ c .if1 .taken),
@@ -152,6 +158,8 @@ sound-rows-spec =
     element-copy-out-sound-row
     mul-sound-row-2
     element-copy-out-sound-row-2
+    mul-sound-row-3
+    element-copy-out-sound-row-3
     sound-row-requires
     add-row
     loop-less

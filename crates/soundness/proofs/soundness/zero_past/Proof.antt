@@ -13,14 +13,14 @@ use Rattle.soundness.proofs.soundness.zero_past.Statement.{statement}
 use Rattle.soundness.proofs.soundness.zero_past.Tie as tie
 
 abbrev Inv-loop : tie.InvT-loop
-Inv-loop rows truths counts truth-bits₀ count-bits₀ row₀ truth-bits count-bits row =
-    (rows ≤ row) × (row ≤ rowLimit) × ((eqb truth-bits 0 && eqb count-bits 0) ≡ every row (zeroPast? rows truths counts))
+Inv-loop rows truths counts firsts truth-bits₀ number-bits₀ row₀ truth-bits number-bits row =
+    (rows ≤ row) × (row ≤ rowLimit) × ((eqb truth-bits 0 && eqb number-bits 0) ≡ every row (zeroPast? rows truths counts firsts))
 
 abbrev μ-loop : tie.MeasureT-loop
-μ-loop rows truths counts truth-bits₀ count-bits₀ row₀ truth-bits count-bits row = rowLimit - row
+μ-loop rows truths counts firsts truth-bits₀ number-bits₀ row₀ truth-bits number-bits row = rowLimit - row
 
 loop-holds : tie.Need-loop-holds Inv-loop μ-loop
-loop-holds c = (omega arith, c .pre, sym (none-past _ _ _))
+loop-holds c = (omega arith, c .pre, sym (none-past _ _ _ _))
 
 cast-loop : tie.Need-cast-loop Inv-loop μ-loop
 cast-loop c = omega arith
@@ -31,14 +31,23 @@ cast-truth-bits c = omega arith
 element-copy-out-truth-bits : tie.Need-element-copy-out-truth-bits Inv-loop μ-loop
 element-copy-out-truth-bits c = omega arith
 
-cast-count-bits : tie.Need-cast-count-bits Inv-loop μ-loop
-cast-count-bits c = omega arith
+cast-number-bits : tie.Need-cast-number-bits Inv-loop μ-loop
+cast-number-bits c = omega arith
 
-mul-count-bits : tie.Need-mul-count-bits Inv-loop μ-loop
-mul-count-bits c = omega arith
+mul-number-bits : tie.Need-mul-number-bits Inv-loop μ-loop
+mul-number-bits c = omega arith
 
-element-copy-out-count-bits : tie.Need-element-copy-out-count-bits Inv-loop μ-loop
-element-copy-out-count-bits c = omega arith
+element-copy-out-number-bits : tie.Need-element-copy-out-number-bits Inv-loop μ-loop
+element-copy-out-number-bits c = omega arith
+
+cast-number-bits-2 : tie.Need-cast-number-bits-2 Inv-loop μ-loop
+cast-number-bits-2 c = omega arith
+
+mul-number-bits-2 : tie.Need-mul-number-bits-2 Inv-loop μ-loop
+mul-number-bits-2 c = omega arith
+
+element-copy-out-number-bits-2 : tie.Need-element-copy-out-number-bits-2 Inv-loop μ-loop
+element-copy-out-number-bits-2 c = omega arith
 
 add-row : tie.Need-add-row Inv-loop μ-loop
 add-row c = omega arith
@@ -48,8 +57,8 @@ loop-less c = omega arith
 
 loop-again : tie.Need-loop-again Inv-loop μ-loop
 loop-again c =
-    let l = c .before .before .before .loop in
-    (omega arith, omega arith, past-more _ _ _ (l .truth-bits) (l .count-bits) (l .inv .0) (l .inv .2))
+    let l = c .before .before .before .before .loop in
+    (omega arith, omega arith, past-more _ _ _ _ (l .truth-bits) (l .number-bits) (l .inv .0) (l .inv .2))
 
 returns : tie.Need-returns Inv-loop μ-loop
 returns c =
@@ -71,9 +80,12 @@ zero-past-spec =
     cast-loop
     cast-truth-bits
     element-copy-out-truth-bits
-    cast-count-bits
-    mul-count-bits
-    element-copy-out-count-bits
+    cast-number-bits
+    mul-number-bits
+    element-copy-out-number-bits
+    cast-number-bits-2
+    mul-number-bits-2
+    element-copy-out-number-bits-2
     add-row
     loop-less
     loop-again

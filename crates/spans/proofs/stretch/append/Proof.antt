@@ -1,16 +1,29 @@
--- `spans::stretch::append` meets its contract: no room and nothing written, or two words (`left-out`, `append-written`). Assumes nothing.
+-- `spans::stretch::append` meets its contract: no room and nothing written, or the two words of the place after those held (`left-out`, `append-written`).
+-- Assumes nothing.
+use mathlib.Core.Path.{_≡_, refl}
+use Prim.Native.Nat.{_*_, _<_}
 use native.Mathlib.Omega.{arith}
 use borrow.Author.Needs.{needs}
-use lib.ListN.{length-set}
+use lib.ListN.{length, length-set}
+use Rattle.spans.specs.Layout.{placesOf}
+use Rattle.spans.proofs.RoundLaws.{places-whole, length-round, round-sets}
 use Rattle.spans.proofs.LayoutLaws.{held-written}
 use Rattle.spans.proofs.JoinLaws.{append-written, left-out}
 use Rattle.spans.proofs.stretch.append.Statement.{statement}
 use Rattle.spans.proofs.stretch.append.Tie as tie
 
+places-requires : tie.Need-places-requires
+places-requires c κs = search needs
+
 returns : tie.Need-returns
 returns c =
-    let start = c .before in
-    left-out _ (held-written (start .args .words .now) (start .args .held) (start .pre)) (start .pre) (c .if1 .taken)
+    let start = c .before .before .before .before in
+    let args = start .args in
+    let p = placesOf (length (args .words .now)) in
+    (refl, left-out p _ (held-written (args .words .now) (args .held) (start .pre)) (omega arith))
+
+place-of-requires : tie.Need-place-of-requires
+place-of-requires c κs = search needs
 
 mul-words : tie.Need-mul-words
 mul-words c = search needs
@@ -41,15 +54,27 @@ same-length c = search needs
 
 returns-2 : tie.Need-returns-2
 returns-2 c =
-    let start = c .before in
+    let start = c .before .before .before .before .before .before .before in
     let args = start .args in
-    append-written (args .first) (args .last) (held-written (args .words .now) (args .held) (start .pre)) (omega arith)
+    let words = args .words .now in
+    let p = placesOf (length words) in
+    let known : args .held .count < p = omega arith in
+    let whole : 2 * p ≡ length words = places-whole (length words) (omega arith) in (
+      refl,
+      rw
+          (round-sets words p (args .held .first) (args .held .count) (c .before .place-of .result) (args .first) (args .last) whole (start .pre .0) known
+          (c .before .place-of .ensures .0))
+          (append-written p (args .first) (args .last) (held-written words (args .held) (start .pre)) known
+          (rw (length-round (args .held .first) words) (omega (arith, whole)))),
+    )
 
 pub append-spec : {M : Type 1} → statement M
 append-spec =
     tie.close
     (tie.spec
+    places-requires
     returns
+    place-of-requires
     mul-words
     mul-words-2
     slice-write-words

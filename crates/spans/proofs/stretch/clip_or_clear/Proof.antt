@@ -22,4 +22,6 @@ returns-2 : tie.Need-returns-2
 returns-2 c = rw (c .before .before .before .before .if1 .left) (c .before .before .clear .ensures)
 
 pub clip-or-clear-spec : {M : Type 1} → statement M
-clip-or-clear-spec = tie.close (tie.spec clip-held-requires same-length returns clear-requires same-length-2 returns-2)
+clip-or-clear-spec =
+    tie.close
+    (tie.spec clip-held-requires same-length returns clear-requires same-length-2 returns-2)
