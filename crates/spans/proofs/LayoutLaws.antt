@@ -205,20 +205,10 @@ read-laid words held inside unplaced placed zeros =
       inside = placed;
     }
 
--- Spans written over words are read back, and have room if the length stays.
+-- Spans written over words are read back.
 pub written-read : {words after : List ℕ} {count : ℕ} {S : List Span} → Overwrites words after count S → Stored S → spansFrom after 0 count ≡ S
 unfolding spansOver
 written-read {S = S} done h = rw (done .written, done .counted) (words-read S _ h)
-
-pub written-room : {words after : List ℕ} {count : ℕ} {S : List Span} → Overwrites words after count S → length after ≡ length words
-    → 2 * count ≤ length words
-unfolding spansOver
-written-room {words} {after} {count} {S} done same =
-    let many : count ≡ length S = done .counted in
-    let sum : length after ≡ 2 * length S + (length words - 2 * length S) =
-    ap length (done .written) ∙ simp (length-append, length-words, length-drop)
-    in
-    omega arith
 
 -- More spans over fewer: the fewer leave no trace.
 pub over-again : (words : List ℕ) (K S : List Span) → length K ≤ length S → spansOver (spansOver words K) S ≡ spansOver words S
