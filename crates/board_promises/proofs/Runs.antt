@@ -12,7 +12,7 @@ use Rattle.promises.specs.LineTimes.{replies}
 use Rattle.codes.specs.Code.{code_of}
 use Rattle.call_runs.specs.Run as Run
 use Rattle.call_runs.specs.Run.{calls_of, Ran, ran, run_of}
-use Rattle.call_runs.proofs.RunLaws.{calls_end}
+use Rattle.call_runs.proofs.RunLaws.{calls-end}
 use Rattle.board_promises.specs.Calls.{standing}
 use Rattle.board_promises.specs.Runs.{calls_made, RunsAreTheStream}
 
@@ -34,20 +34,20 @@ run_streamed setup s (code ∷ codes) (c ∷ calls) (suc n) least =
     ap (Run.code_then (code_of (call setup s c).reply)) (run_streamed setup (next setup s c) codes calls n (omega arith))
 
 -- A call of two rows, by its place.
-call_at : (kind : ℕ → ℕ → Call) (numbers masks : List ℕ) (i : ℕ) (other : Call) → i < length numbers → i < length masks
+call-at : (kind : ℕ → ℕ → Call) (numbers masks : List ℕ) (i : ℕ) (other : Call) → i < length numbers → i < length masks
     → get_or (calls_of kind numbers masks) i other ≡ kind (get_or numbers i 0) (get_or masks i 0)
 unfolding calls_of
-call_at kind [] masks i other h h' = absurd (omega arith)
-call_at kind (number ∷ numbers) [] i other h h' = absurd (omega arith)
-call_at kind (number ∷ numbers) (mask ∷ masks) zero other h h' = refl
-call_at kind (number ∷ numbers) (mask ∷ masks) (suc i) other h h' = call_at kind numbers masks i other (omega arith) (omega arith)
+call-at kind [] masks i other h h' = absurd (omega arith)
+call-at kind (number ∷ numbers) [] i other h h' = absurd (omega arith)
+call-at kind (number ∷ numbers) (mask ∷ masks) zero other h h' = refl
+call-at kind (number ∷ numbers) (mask ∷ masks) (suc i) other h h' = call-at kind numbers masks i other (omega arith) (omega arith)
 
 pub runs_are_the_stream : RunsAreTheStream
 runs_are_the_stream setup store found kind numbers masks codes kept words answers left =
     let count : ℕ = calls_made numbers masks codes in
     let rows : List Call = calls_of kind numbers masks in
     let calls : List Call = take count rows in
-    let many : length rows ≡ min (length numbers) (length masks) = calls_end kind numbers masks in
+    let many : length rows ≡ min (length numbers) (length masks) = calls-end kind numbers masks in
     let as_many : length calls ≡ count = length-take count rows ∙ omega arith in
     let is : ran kept words answers ≡ streamed setup (standing store found) codes calls =
     left ∙ run_streamed setup (standing store found) codes rows count (omega arith) in
@@ -55,7 +55,7 @@ runs_are_the_stream setup store found kind numbers masks codes kept words answer
       calls = calls;
       as_many = as_many;
       each = λ i other lower.
-          get_or-take count rows i other (omega arith) ∙ call_at kind numbers masks i other (omega arith) (omega arith);
+          get_or-take count rows i other (omega arith) ∙ call-at kind numbers masks i other (omega arith) (omega arith);
       kept_is = ap (λ (r : Ran). r.left) is;
       words_are = ap (λ (r : Ran). r.store) is;
       answers_are = ap (λ (r : Ran). r.codes) is;

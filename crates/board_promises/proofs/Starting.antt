@@ -21,9 +21,9 @@ use Rattle.board_promises.specs.Starting.{StartTold, StartIsTheStreams}
 use Rattle.board_promises.proofs.NumberLaws.{start_above}
 
 module _ (setup : Setup) (store : List ℕ) (code : ℕ) (kept : Record) (words : List ℕ) (made : StartLeaves setup store code kept words) where
-  ready-told : Ready setup (length store) → StartTold setup store code kept words
+  ready_told : Ready setup (length store) → StartTold setup store code kept words
   unfolding start_of
-  ready-told ready =
+  ready_told ready =
       let passes : start_of setup store ≡ begin store (passed (rows_of setup.table) (need_of setup.table)) = rw (start-passes setup (length store) ready) in
       let code_is : code ≡ 0 = ap (λ (l : Left). l.code) made ∙ rw passes in
       record {
@@ -52,6 +52,6 @@ module _ (setup : Setup) (store : List ℕ) (code : ℕ) (kept : Record) (words 
 pub start_is_the_streams : StartIsTheStreams
 start_is_the_streams setup store code kept words made =
     ⊎_elim
-    (ready-told setup store code kept words made)
+    (ready_told setup store code kept words made)
     (λ wrong. refused-told setup store code kept words made wrong.0 wrong.1)
     (start_decided setup (length store))

@@ -1,5 +1,5 @@
 -- The turns of the loop, one for each place of the rows, are the run.
-use mathlib.Core.Bool.{Bool, true, false, cond}
+use mathlib.Core.Bool.{Bool, true, false}
 use mathlib.Core.List.{List, [], ◌∷◌, ◌++◌}
 use mathlib.Core.Logic.{◌⊎◌, inl, inr}
 use mathlib.Core.Path.{◌≡◌, refl, sym, ap, ◌∙◌}
@@ -12,47 +12,23 @@ use lib.Seq.{take-suc-set, drop-set-lt, drop-cons, append_snoc}
 use borrow.Author.Tests.{ltb-true, ltb-false, lt-ltb, le-ltb}
 use Rattle.soundness.specs.declared.record.Record.{Record}
 use Rattle.soundness.specs.Setup.{Setup}
-use Rattle.soundness.specs.Record.{clock_of}
-use Rattle.soundness.specs.Fit.{fit_of}
-use Rattle.refusals.specs.Refusals.{Refused}
-use Rattle.rules.specs.Table.{refused_by}
-use Rattle.times.specs.FrameTime.{time_shown}
-use Rattle.monitor.specs.Step.{Call, event, frame, Outcome, step_of}
-use Rattle.monitor.proofs.StepLaws.{frame_at, fit_refused}
-use Rattle.codes.specs.Code.{code_of, refusal_code}
+use Rattle.monitor.specs.declared.answer.Judged.{Judged}
+use Rattle.monitor.specs.Step.{Call, event, frame, Outcome, step_of, said, StepGives}
+use Rattle.codes.specs.Code.{code_of}
 use Rattle.call_runs.specs.Run.{Ran, ran, run_of, calls_of}
-use Rattle.call_runs.specs.Turns.{call_at, time_at, filled, turn_of, turns_of}
+use Rattle.call_runs.specs.Turns.{call_at, turn_of, turns_of}
 
 -- One turn of the loop: the call at the place is judged from what the turns before it left, and its code is put there.
-pub one_more : (setup : Setup) (call : ℕ → Call) (start found : Ran) (place code : ℕ) (judged : Outcome) (codes : List ℕ)
+pub one_more : (setup : Setup) (call : ℕ → Call) (start found : Ran) (place code : ℕ) (called : Call) (given : Judged) (words codes : List ℕ)
     → found ≡ turns_of setup call start place
-    → judged ≡ step_of setup found.store found.left (call place)
-    → code ≡ code_of judged.reply
+    → called ≡ call place
+    → StepGives setup found.store found.left called given words
+    → code ≡ code_of (said given.answer)
     → codes ≡ set found.codes place code
-    → ran judged.left judged.store codes ≡ turns_of setup call start (place + 1)
+    → ran given.record words codes ≡ turns_of setup call start (place + 1)
 unfolding turns_of turn_of
-one_more setup call start found place code judged codes reached is coded put =
-    rw (add-one place, ← reached, ← is, put, coded)
-
--- The call at a place is the event at its time, by the clock.
-pub as_event : (setup : Setup) (store : List ℕ) (found : Record) (times counters masks : List ℕ) (place : ℕ)
-    → step_of setup store found (call_at times counters masks place)
-    ≡ step_of setup store found (event (time_at times counters (clock_of found) place) (get_or masks place 0))
-as_event setup store found times counters masks place = go (ltb place (length times))
-  where
-    go : (t : Bool)
-        → step_of setup store found (cond t (event (get_or times place 0) (get_or masks place 0)) (frame (get_or counters place 0) (get_or masks place 0)))
-        ≡ step_of setup store found (event (cond t (get_or times place 0) (time_shown (clock_of found) (get_or counters place 0))) (get_or masks place 0))
-    go true = refl
-    go false = frame_at setup store found (get_or counters place 0) (get_or masks place 0)
-
--- Where the check refuses, it refuses every call: each is answered so, and nothing is left changed.
-pub all-refused : (setup : Setup) (call : ℕ → Call) (found : Record) (store codes : List ℕ) (fault : Refused) → refused_by fault ≡ fit_of setup store found → (n : ℕ)
-    → ran found store (filled (refusal_code fault) codes n) ≡ turns_of setup call (ran found store codes) n
-unfolding turns_of turn_of step_of filled
-all-refused setup call found store codes fault refuses zero = refl
-all-refused setup call found store codes fault refuses (suc n) =
-    rw (← all-refused setup call found store codes fault refuses n, fit_refused setup store found (call n) fault refuses)
+one_more setup call start found place code called given words codes reached at judged coded put =
+    rw (add-one place, ← reached, ← at, put, coded, ← judged)
 
 -- The calls of two rows, by place.
 calls_at : (kind : ℕ → ℕ → Call) (numbers masks : List ℕ) (i : ℕ) → i < length numbers → i < length masks
@@ -63,12 +39,12 @@ calls_at kind (number ∷ numbers) [] i h h' = absurd (omega arith)
 calls_at kind (number ∷ numbers) (mask ∷ masks) zero h h' = refl
 calls_at kind (number ∷ numbers) (mask ∷ masks) (suc i) h h' = calls_at kind numbers masks i (omega arith) (omega arith)
 
-pub calls_end : (kind : ℕ → ℕ → Call) (numbers masks : List ℕ) → length (calls_of kind numbers masks) ≡ min (length numbers) (length masks)
+pub calls-end : (kind : ℕ → ℕ → Call) (numbers masks : List ℕ) → length (calls_of kind numbers masks) ≡ min (length numbers) (length masks)
 unfolding calls_of
-calls_end kind [] masks = omega arith
-calls_end kind (number ∷ numbers) [] = omega arith
-calls_end kind (number ∷ numbers) (mask ∷ masks) =
-    let shorter : length (calls_of kind numbers masks) ≡ min (length numbers) (length masks) = calls_end kind numbers masks in
+calls-end kind [] masks = omega arith
+calls-end kind (number ∷ numbers) [] = omega arith
+calls-end kind (number ∷ numbers) (mask ∷ masks) =
+    let shorter : length (calls_of kind numbers masks) ≡ min (length numbers) (length masks) = calls-end kind numbers masks in
     omega arith
 
 -- Where there is no place left, a run leaves what it found.
@@ -140,7 +116,7 @@ run_of_rows setup kind numbers masks call found store codes count reads least =
 
     stops-by : (t : Bool) → ltb count (length codes) ≡ t → (drop count (calls_of kind numbers masks) ≡ []) ⊎ (length codes ≤ count)
     stops-by true h =
-        let shorter : length (calls_of kind numbers masks) ≡ min (length numbers) (length masks) = calls_end kind numbers masks in
+        let shorter : length (calls_of kind numbers masks) ≡ min (length numbers) (length masks) = calls-end kind numbers masks in
         let spare : count < length codes = ltb-true _ _ h in
         inl (drop_of_length-le (calls_of kind numbers masks) {i = count} (omega arith))
     stops-by false h = inr (ltb-false _ _ h)

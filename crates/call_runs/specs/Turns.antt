@@ -1,31 +1,15 @@
 -- The loop of a run, turn by turn. What it leaves after all turns is the run of `Run`, by `run-of-turns`.
 use Rattle.std.specs.Prelude.{cond, List, ◌≡◌, ℕ, zero, suc, ltb, length, get_or, set}
-use Rattle.times.specs.FrameTime.{time_shown}
 use Rattle.soundness.specs.declared.record.Record.{Record}
-use Rattle.soundness.specs.Record.{record_of}
 use Rattle.soundness.specs.Setup.{Setup}
 use Rattle.monitor.specs.Step.{Call, event, frame, Outcome, step_of}
 use Rattle.codes.specs.Code.{code_of}
-use Rattle.call_runs.specs.declared.run.Times.{Times}
 use Rattle.call_runs.specs.Run.{Ran, ran}
 
 -- The call at a place of the rows: an event where there is a time, otherwise a frame. What is past a row's end reads as 0.
 abbrev pub call_at : List ℕ → List ℕ → List ℕ → ℕ → Call
 call_at times counters masks place =
     cond (ltb place (length times)) (event (get_or times place 0) (get_or masks place 0)) (frame (get_or counters place 0) (get_or masks place 0))
-
--- Its time by the clock.
-abbrev pub time_at : List ℕ → List ℕ → ℕ → ℕ → ℕ
-time_at times counters clock place = cond (ltb place (length times)) (get_or times place 0) (time_shown clock (get_or counters place 0))
-
--- The record of a run that goes on, by its times and its arrays.
-abbrev pub record_with : Times → (rows : ℕ) (truths counts firsts : List ℕ) → Record
-record_with t rows truths counts firsts = record_of t.seen t.clock t.last rows truths counts firsts
-
--- One code for so many calls.
-unfoldable pub filled : (code : ℕ) (codes : List ℕ) → ℕ → List ℕ
-filled code codes zero = codes
-filled code codes (suc n) = set (filled code codes n) n code
 
 -- One call from what was left, its code written at a place.
 unfoldable pub turn_of : Setup → ℕ → Call → Ran → Ran

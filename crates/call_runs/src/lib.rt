@@ -1,3 +1,4 @@
 // Many calls over lent rows.
 
+mod call;
 pub mod run;

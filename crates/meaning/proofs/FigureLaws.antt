@@ -126,9 +126,9 @@ module _ (a b : ℕ) (order : a ≤ b) where
   filled_length zero = refl
   filled_length (suc n) = let before : length (whole n) ≡ n = omega (arith, filled_length n) in simp length-append (omega arith)
 
-  clip-filled : (t n : ℕ) → pulse_time apart n ≤ t → t ≤ b → clip t (filled n) ≡ (max t a to up_to b) ∷ whole n
+  clip_filled : (t n : ℕ) → pulse_time apart n ≤ t → t ≤ b → clip t (filled n) ≡ (max t a to up_to b) ∷ whole n
   unfolding filled clip
-  clip-filled t n later within =
+  clip_filled t n later within =
       let first : max t (max (pulse_time apart n) a) ≡ max t a = omega arith in rw (le-ltb b t within, first)
 
   -- A pulse later, the reach begins past a gap after the former reach.
@@ -142,10 +142,10 @@ module _ (a b : ℕ) (order : a ≤ b) where
   filled_next zero within =
       let first = max (0 + apart) a in
       let gap : touches (first to up_to b) (reached_from (0 + apart) a (up_to b)) ≡ false = rw (zero-add b) at (reaches-apart 0 first) in
-      rw (clip-filled (0 + apart) 0 (omega arith) within) (join_apart [] (first to up_to b) (reached_from (0 + apart) a (up_to b)) gap)
+      rw (clip_filled (0 + apart) 0 (omega arith) within) (join_apart [] (first to up_to b) (reached_from (0 + apart) a (up_to b)) gap)
   filled_next (suc n) within =
       let t = pulse_time apart n + apart in
-      rw (clip-filled (t + apart) (suc n) (omega arith) within, append_assoc)
+      rw (clip_filled (t + apart) (suc n) (omega arith) within, append_assoc)
       (join_apart ((max (t + apart) a to up_to b) ∷ whole n) (reached_from t a (up_to b)) (reached_from (t + apart) a (up_to b)) (reaches-apart t (t + a)))
 
   pulses_fill : (n : ℕ)

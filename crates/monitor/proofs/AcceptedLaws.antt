@@ -44,7 +44,7 @@ use Rattle.monitor.specs.Event.{Moment, spans_by, spans_left, spans_after, first
 use Rattle.monitor.specs.Core.{RowsLaid}
 use Rattle.soundness.specs.Setup.{Setup}
 use Rattle.monitor.specs.Step.{Call, time_of, unless, refusal_of}
-use Rattle.soundness.proofs.ReadyLaws.{Ready, ready-none}
+use Rattle.soundness.proofs.ReadyLaws.{Ready, ready_none}
 use Rattle.monitor.proofs.EventLaws.{length_stretch, RingFits, Room}
 use Rattle.monitor.proofs.ClippingLaws.{clipped_fits}
 use Rattle.spans.proofs.ReachedLaws.{reach_storable}
@@ -72,7 +72,7 @@ accepted setup store found call h =
     let second = or_none sound (early or_else risen) first.1 in
     let third = or_none early risen second.1 in
     record {
-      ready = (ready-none setup (length store) first.0).table;
+      ready = (ready_none setup (length store) first.0).table;
       sound = unless-none (sound? setup.table store found) Unsound second.0;
       early = leb-true _ _ (unless-none (leb (time_of (clock_of found) call) time_limit) Late third.0);
       risen = leb-true _ _ (unless-none (leb (clock_of found) (time_of (clock_of found) call)) Earlier third.1);
@@ -90,7 +90,7 @@ accepted_list setup store found call h =
     or_else unless (leb (clock_of found) (time_of (clock_of found) call)) Earlier)
     h
     in
-    (ready-none setup (length store) first.0).listed
+    (ready_none setup (length store) first.0).listed
 
 module _ (table store : List ℕ) (found : Record) (time : ℕ) (met : Accepted table store found time) where
   module _ (row : ℕ) (lower : row < rows_of table) where

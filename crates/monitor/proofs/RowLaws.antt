@@ -20,7 +20,7 @@ use Rattle.spans.specs.declared.stretch.Updated.{Updated}
 use Rattle.spans.specs.Layout.{laid_from, words_of, packed}
 use Rattle.spans.specs.Stretch.{covered, first_left}
 use Rattle.spans.proofs.RoundLaws.{places_double}
-use Rattle.monitor.specs.declared.arrival.Arrival.{Arrival}
+use Rattle.monitor.specs.declared.event.Arrival.{Arrival}
 use Rattle.row_list.specs.Truths.{truth_at}
 use Rattle.monitor.specs.Event.{spans_by, spans_left, truth_by}
 use Rattle.monitor.specs.Core.{update_in, UpdateReady, UpdatedIn, spans_after_in, first_after_in, RowReady, RowJudged}
@@ -114,13 +114,14 @@ module _
 
           pub stretch-judged : {found : List ℕ} {truth : Bool}
               → truth ≡ taken not columns.inside judged.covered
-              → RowJudged store from n held e found truths after (record { truth = truth; count = judged.held.count; first = judged.held.first })
+              → RowJudged store from n held e found truths after (record { truth = truth; count = judged.held.count; first = judged.held.first; end = from + words })
           stretch-judged {found} told =
               let all : from + words - from ≡ words = omega arith in
               record {
                 truth = rw (told, done.told, stretch-spans) (sym (truth-stretch found (spans_after_in store from n held e truths)));
                 count = count_is;
                 first = first_is;
+                end = rw size;
                 written = done.written ∙ rw (stretch-spans, all, size);
               }
 
@@ -132,12 +133,13 @@ module _
       narrow = no_words n (rule_of n) bare
 
       pub plain-judged : {truth : Bool} {found : List ℕ} → truth ≡ truth_by e found truths (spans_after_in store from n held e truths) n (rule_of n)
-          → RowJudged store from n held e found truths store (record { truth = truth; count = 0; first = 0 })
+          → RowJudged store from n held e found truths store (record { truth = truth; count = 0; first = 0; end = from + words })
       unfolding packed words_of first_left laid_from
       plain-judged told =
           record {
             truth = told;
             count = rw none;
             first = rw (none_left e.time truths _ n (rule_of n) bare) refl;
+            end = rw size;
             written = rw (none, narrow, add-zero) (sym (take-append-drop from store));
           }

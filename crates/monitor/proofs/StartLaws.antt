@@ -10,7 +10,7 @@ use Rattle.rules.specs.Table.{CheckReply, passed, refused_by}
 use Rattle.soundness.specs.Record.{nothing_seen}
 use Rattle.soundness.specs.Setup.{Setup}
 use Rattle.soundness.specs.Ready.{ready_of}
-use Rattle.soundness.proofs.ReadyLaws.{ready-need}
+use Rattle.soundness.proofs.ReadyLaws.{ready_need}
 use Rattle.monitor.specs.declared.answer.Started.{Started}
 use Rattle.monitor.specs.Start.{Beginning, begin, start_of, StartGives}
 
@@ -20,7 +20,7 @@ unfolding start_of
 start-need setup store good = by (ready_of setup (length store)) refl good
   where
     by : (said : CheckReply) → ready_of setup (length store) ≡ said → (begin store said).refusal ≡ none → (begin store said).need ≡ need_of setup.table
-    by (passed rows need) is good = ready-need setup (length store) rows need is
+    by (passed rows need) is good = ready_need setup (length store) rows need is
     by (refused_by fault) is good = let z : ◌≡◌ {A = ℕ} 0 1 = cc in absurd (omega arith)
 
 -- The record that a start gives is told by its row count.

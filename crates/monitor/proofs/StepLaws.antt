@@ -16,9 +16,9 @@ use Rattle.rules.specs.Table.{CheckReply, passed, refused_by}
 use Rattle.refusals.specs.declared.refusal.Refusal.{Refusal}
 use Rattle.refusals.specs.declared.refusal.Refusal.TheVariants.{Earlier, Late, Unsound}
 use Rattle.soundness.specs.declared.record.Record.{Record}
-use Rattle.monitor.specs.declared.arrival.Arrival.{Arrival}
+use Rattle.monitor.specs.declared.event.Arrival.{Arrival}
 use Rattle.monitor.specs.declared.answer.Answer.TheVariants as Answer
-use Rattle.monitor.specs.declared.arrival.Told.{Told}
+use Rattle.monitor.specs.declared.step.Told.{Told}
 use Rattle.times.specs.FrameTime.{time_shown}
 use Rattle.times.specs.Times.{time_limit}
 use Rattle.row_list.specs.RowList.{list_limit}
@@ -45,8 +45,7 @@ use Rattle.monitor.specs.Step.{
   said,
 }
 use Rattle.monitor.specs.Event.{Moment, ring_clipped, record_after}
-use Rattle.monitor.specs.Core.{moment, SpansLeft, AfterRows, refused_told}
-use Rattle.monitor.specs.Checked.{record_met, LeftIn}
+use Rattle.monitor.specs.Core.{moment, record_met, SpansLeft, AfterRows, LeftIn, refused_told}
 use Rattle.soundness.specs.Fit.{with_sound, fit_of}
 use Rattle.row_list.proofs.VerdictLaws.{verdict-below}
 use Rattle.soundness.proofs.ReadyLaws.{ready_gives}

@@ -13,23 +13,30 @@ use Rattle.spans.specs.Stretch.{covered, kept_of, first_left}
 use Rattle.soundness.specs.declared.record.Record.{Record}
 use Rattle.refusals.specs.declared.refusal.Refusal.{Refusal}
 use Rattle.monitor.specs.declared.answer.Answer.TheVariants as Answer
-use Rattle.monitor.specs.declared.arrival.Arrival.{Arrival}
+use Rattle.monitor.specs.declared.event.Arrival.{Arrival}
 use Rattle.monitor.specs.declared.event.Judgement.{Judgement}
-use Rattle.monitor.specs.declared.arrival.Told.{Told}
+use Rattle.monitor.specs.declared.step.Told.{Told}
 use Rattle.times.specs.Times.{time_limit}
 use Rattle.soundness.specs.Setup.{Setup, setup_of}
-use Rattle.soundness.specs.Record.{held_in, stretch_at}
+use Rattle.soundness.specs.Record.{held_in, stretch_at, record_of}
 use Rattle.monitor.specs.Event.{Moment, spans_by, spans_left, truth_by, truths_after, Ring, ring_judged, counts_with, firsts_with, store_with}
-use Rattle.monitor.specs.Step.{event, refusal_of}
-use Rattle.monitor.specs.Checked.{record_met}
+use Rattle.monitor.specs.Step.{event, refusal_of, Outcome, step_of, said}
 
 -- A moment by its parts.
 abbrev pub moment : (table store : List ℕ) → Record → (time mask : ℕ) → Moment
 moment table store found time mask = record { table = table; store = store; found = found; time = time; mask = mask }
 
--- The call at a record as a moment, and that nothing refuses it.
+-- The record that a call met, which is lent in parts: the clock, and whether and when an event was seen, beside the call; the row count and the three arrays.
+abbrev pub record_met : Arrival → (rows : ℕ) (truths counts firsts : List ℕ) → Record
+record_met e rows truths counts firsts = record_of e.seen e.clock e.last rows truths counts firsts
+
+-- The call at it as a moment, its outcome, and that nothing refuses it.
 abbrev pub moment_met : (table store : List ℕ) → Arrival → (rows : ℕ) (truths counts firsts : List ℕ) → Moment
 moment_met table store e rows truths counts firsts = moment table store (record_met e rows truths counts firsts) e.time e.mask
+
+abbrev pub outcome_met : Setup → (store : List ℕ) → Arrival → (rows : ℕ) (truths counts firsts : List ℕ) → Outcome
+outcome_met setup store e rows truths counts firsts =
+    step_of setup store (record_met e rows truths counts firsts) (event e.time e.mask)
 
 abbrev pub Unrefused : Setup → (store : List ℕ) → Arrival → (rows : ℕ) (truths counts firsts : List ℕ) → Type 0
 Unrefused setup store e rows truths counts firsts =
@@ -120,14 +127,26 @@ pub record RowReady (store : List ℕ) (from : ℕ) (n : Numbers) (held : Held) 
   pub placed : first_after_in store from n held e truths ≤ spans_of n
   pub few : spans_of n < 2 ^ 32
 
--- The row was judged: its truth, its spans, and the store with its words written there.
+-- The row was judged: its truth, its spans, where its stretch ends, and the store with its words written there.
 pub record RowJudged (store : List ℕ) (from : ℕ) (n : Numbers) (held : Held) (e : Arrival) (found truths after : List ℕ) (judged : Judgement)
     : Type 0 where
   pub truth : judged.truth ≡ truth_by e found truths (spans_after_in store from n held e truths) n (rule_of n)
   pub count : judged.count ≡ length (spans_after_in store from n held e truths)
   pub first : judged.first ≡ first_after_in store from n held e truths
+  pub end : judged.end ≡ from + width n
   pub written : after
       ≡ with_stretch from (from + width n) store (ring_of (width n) judged.first (spans_after_in store from n held e truths))
+
+-- After a call on lent arrays: the answer, the times beside it, and what stands in the arrays and in the store, are the outcome's.
+pub record LeftIn (o : Outcome) (told : Told) (truths counts firsts store : List ℕ) : Type 0 where
+  pub replied : said told.answer ≡ o.reply
+  pub seen_is : told.seen ≡ o.left.seen
+  pub clock_is : told.clock ≡ o.left.clock
+  pub last_is : told.last ≡ o.left.last
+  pub truths_are : truths ≡ o.left.truths
+  pub counts_are : counts ≡ o.left.counts
+  pub firsts_are : firsts ≡ o.left.firsts
+  pub store_is : store ≡ o.store
 
 -- What is told of a refused call: the times found.
 abbrev pub refused_told : Refusal → Arrival → Told

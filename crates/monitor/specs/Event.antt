@@ -13,7 +13,7 @@ use Rattle.rules.specs.declared.numbers.Numbers.{Numbers}
 use Rattle.spans.specs.Layout.{spans_held, ring_of}
 use Rattle.spans.specs.Stretch.{covered, kept_of, first_left}
 use Rattle.soundness.specs.declared.record.Record.{Record}
-use Rattle.monitor.specs.declared.arrival.Arrival.{Arrival}
+use Rattle.monitor.specs.declared.event.Arrival.{Arrival}
 use Rattle.row_list.specs.Truths.{byte_of, is_true, truth_at}
 use Rattle.soundness.specs.Record.{clock_of, event_time, held_in, held_at, stretch_at, spans_found}
 

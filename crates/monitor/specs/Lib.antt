@@ -2,5 +2,4 @@
 pub mod Start
 pub mod Event
 pub mod Step
-pub mod Checked
 pub mod Core

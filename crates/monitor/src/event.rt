@@ -1,13 +1,12 @@
 // One event, rows rising (document 01, "Spans, store and record"): the core over lent arrays and the lent store. It refuses nothing; whoever
 // calls has checked the table, the store, the record and the time. No record goes into it: a row is judged from the few values that it needs.
 
-ghost use Rattle.std.specs.Prelude.{true, false, not, ◌&&◌, ◌||◌, List, ◌≡◌, ◌≤◌, ◌<◌, length};
+ghost use Rattle.std.specs.Prelude.{true, false, not, ◌&&◌, ◌||◌, List, ◌≡◌, ◌≤◌, ◌<◌};
 ghost use Rattle.meaning.specs.Interval.{end_of};
 ghost use Rattle.meaning.specs.Spans.{Span, ◌to◌, reached_from};
 ghost use Rattle.kinds.specs.Kinds.{owns_stretch};
 ghost use Rattle.rules.specs.Limits.{row_limit};
 ghost use Rattle.rules.specs.Rows.{rows_of, rule_of, kept_by, feeder, taken};
-ghost use Rattle.rules.specs.Stretches.{width, Decoded};
 ghost use Rattle.spans.specs.Layout.{end_at};
 ghost use Rattle.times.specs.Times.{time_limit};
 ghost use Rattle.row_list.specs.Truths.{truth_at};
@@ -15,13 +14,11 @@ ghost use Rattle.soundness.specs.Record.{held_of};
 ghost use Rattle.monitor.specs.Event.{previous_held, truth_by};
 ghost use Rattle.monitor.specs.Core.{UnrefusedBySome, moment_met, UpdateReady, UpdatedIn, AfterRows, RowReady, RowJudged};
 
-use crate::arrival::Arrival;
 use crate::truths::{byte_of, truth_at};
 use kinds::plain::Plain;
 use kinds::stretch::{Feed, Keep};
-use rules::figures::words_at;
 use rules::limits::ROW_LIMIT;
-use rules::numbers::{Numbers, numbers_in};
+use rules::numbers::{Numbers, numbers_at};
 use rules::{plain, stretch};
 use spans::reached::last_reached;
 use spans::stretch::{Held, Updated, update};
@@ -29,48 +26,54 @@ use times::interval::within;
 use times::mask::bit_set;
 use times::time::wide;
 
-// What judging a row gives: its truth, how many spans it holds and the place of the first.
+// A call, and what the record tells of those before it: the clock, by which no row is judged; whether an event was seen, and its time. Each row's truth at
+// that event is lent beside this.
+#[derive(Drop)]
+pub(crate) struct Arrival {
+    pub(crate) time: u64,
+    pub(crate) mask: u32,
+    pub(crate) clock: u64,
+    pub(crate) seen: u8,
+    pub(crate) last: u64,
+}
+
+// What judging a row gives: its truth, how many spans it holds and the place of the first, and where its stretch ends.
 #[derive(Drop)]
 pub(crate) struct Judgement {
     pub(crate) truth: bool,
     pub(crate) count: u32,
     pub(crate) first: u32,
+    pub(crate) end: usize,
 }
 
-// Every row is judged, from the truths of the lower rows. The arrays hold the found truths, counts and first places, and then those after the event. Each
-// found truth is kept in `before` until the event is over.
+// Every row is judged, from the truths of the lower rows. The arrays hold the found truths, counts and first places, and then those after the event.
 pub(crate) fn judge_rows(
     table: &[u32],
     store: &mut [u64],
     rows: usize,
-    figures: &[u32],
     arrival: Arrival,
-    before: &mut [u8; ROW_LIMIT],
+    found: &[u8; ROW_LIMIT],
     truths: &mut [u8; ROW_LIMIT],
     counts: &mut [u32; ROW_LIMIT],
     firsts: &mut [u32; ROW_LIMIT],
 )
-    requires unrefused_by_some { UnrefusedBySome table.now store.old arrival rows truths.old counts.old firsts.old }
-    requires rows_value { (rows ≡ rows_of table.now) × Decoded table.now figures.now × (length before.old ≡ row_limit) }
+    requires unrefused_by_some { UnrefusedBySome table.now store.old arrival rows found.now counts.old firsts.old }
+    requires rows_value { (rows ≡ rows_of table.now) × (truths.old ≡ found.now) }
     ensures { AfterRows
-        (moment_met table.now store.old arrival rows truths.old counts.old firsts.old)
-        rows truths.new counts.new firsts.new store.new × (length before.new ≡ row_limit) }
+        (moment_met table.now store.old arrival rows found.now counts.old firsts.old)
+        rows truths.new counts.new firsts.new store.new }
 {
     let mut from = 0;
     let mut row = 0;
     while row < rows {
-        let numbers = numbers_in(table, row);
-        let words = words_at(table, figures, row) as usize;
+        let numbers = numbers_at(table, row);
         let count = counts[row];
         let first = firsts[row];
-        let judged = judge_row(
-            store, from, words, numbers, first, count, arrival, before, truths,
-        );
-        before[row] = truths[row];
+        let judged = judge_row(store, from, numbers, first, count, arrival, found, truths);
         truths[row] = byte_of(judged.truth);
         counts[row] = judged.count;
         firsts[row] = judged.first;
-        from += words;
+        from = judged.end;
         row += 1;
     }
 }
@@ -79,18 +82,18 @@ pub(crate) fn judge_rows(
 fn judge_row(
     store: &mut [u64],
     from: usize,
-    words: usize,
     numbers: Numbers,
     first: u32,
     count: u32,
     arrival: Arrival,
-    before: &[u8; ROW_LIMIT],
+    found: &[u8; ROW_LIMIT],
     truths: &[u8; ROW_LIMIT],
 ) -> Judgement
-    requires { (words ≡ width numbers) × RowReady store.old from numbers (held_of first count) arrival truths.now }
-    ensures { RowJudged store.old from numbers (held_of first count) arrival before.now truths.now
+    requires { RowReady store.old from numbers (held_of first count) arrival truths.now }
+    ensures { RowJudged store.old from numbers (held_of first count) arrival found.now truths.now
         store.new result }
 {
+    let end = from + stretch::words(numbers) as usize;
     if stretch::is_owned(numbers) {
         let columns = stretch::columns(numbers);
         let keeper = columns.keep;
@@ -100,7 +103,7 @@ fn judge_row(
         let updated = judge_stretch(
             store,
             from,
-            from + words,
+            end,
             first,
             count,
             keep,
@@ -113,12 +116,14 @@ fn judge_row(
             truth: taken(columns.inside, updated.covered),
             count: held.count as u32,
             first: held.first as u32,
+            end,
         };
     }
     Judgement {
-        truth: judge_plain(numbers, arrival, before, truths),
+        truth: judge_plain(numbers, arrival, found, truths),
         count: 0,
         first: 0,
+        end,
     }
 }
 
@@ -203,11 +208,11 @@ fn update_in(
 fn judge_plain(
     numbers: Numbers,
     arrival: Arrival,
-    before: &[u8; ROW_LIMIT],
+    found: &[u8; ROW_LIMIT],
     truths: &[u8; ROW_LIMIT],
 ) -> bool
     requires { (owns_stretch numbers.kind ≡ false) × (numbers.x < row_limit) × (numbers.y < row_limit) }
-    ensures { (spans : List Span) → result ≡ truth_by arrival before.now truths.now spans numbers (rule_of numbers) }
+    ensures { (spans : List Span) → result ≡ truth_by arrival found.now truths.now spans numbers (rule_of numbers) }
 {
     let says = plain::says(numbers);
     match says {
@@ -216,7 +221,7 @@ fn judge_plain(
         Plain::Negation => negation(truth_at(truths, numbers.x)),
         Plain::Both => both(truth_at(truths, numbers.x), truth_at(truths, numbers.y)),
         Plain::Either => either(truth_at(truths, numbers.x), truth_at(truths, numbers.y)),
-        Plain::Previous => previous(arrival, before, numbers),
+        Plain::Previous => previous(arrival, found, numbers),
     }
 }
 
@@ -245,12 +250,12 @@ fn either(x: bool, y: bool) -> bool
 }
 
 // Previous x: the truth and the time found; false if no event was seen.
-fn previous(arrival: Arrival, before: &[u8; ROW_LIMIT], numbers: Numbers) -> bool
+fn previous(arrival: Arrival, found: &[u8; ROW_LIMIT], numbers: Numbers) -> bool
     requires { numbers.x < row_limit }
-    ensures { result ≡ previous_held arrival before.now numbers }
+    ensures { result ≡ previous_held arrival found.now numbers }
 {
     if arrival.seen == 1 {
-        if truth_at(before, numbers.x) {
+        if truth_at(found, numbers.x) {
             return within(numbers.a, numbers.b, arrival.last, arrival.time);
         }
     }

@@ -1,13 +1,13 @@
 // A heartbeat (document 02, E2): every row's spans are clipped at its time, and nothing else of the rows changes. It refuses nothing; whoever calls has
 // checked the table, the store, the record and the time.
 
-ghost use Rattle.rules.specs.Stretches.{Decoded};
 ghost use Rattle.monitor.specs.Event.{ring_clipped};
 ghost use Rattle.monitor.specs.Core.{ClipReady, ClippedIn, SpansLeft, RowsLaid};
 ghost use Rattle.soundness.specs.Record.{held_of};
 
-use rules::figures::words_at;
 use rules::limits::ROW_LIMIT;
+use rules::numbers::numbers_at;
+use rules::stretch;
 use spans::stretch::{Held, clip};
 
 // Every stretch is clipped. The arrays hold the found counts and first places, and then those after the heartbeat.
@@ -15,12 +15,11 @@ pub(crate) fn clip_rows(
     table: &[u32],
     store: &mut [u64],
     rows: usize,
-    figures: &[u32],
     time: u64,
     counts: &mut [u32; ROW_LIMIT],
     firsts: &mut [u32; ROW_LIMIT],
 )
-    requires { RowsLaid table.now store.old counts.old firsts.old rows × Decoded table.now figures.now }
+    requires { RowsLaid table.now store.old counts.old firsts.old rows }
     ensures { SpansLeft table.now store.old counts.old firsts.old
         (ring_clipped table.now store.old counts.old firsts.old time) rows
         counts.new firsts.new store.new }
@@ -28,7 +27,8 @@ pub(crate) fn clip_rows(
     let mut from = 0;
     let mut row = 0;
     while row < rows {
-        let end = from + words_at(table, figures, row) as usize;
+        let numbers = numbers_at(table, row);
+        let end = from + stretch::words(numbers) as usize;
         let count = counts[row];
         let first = firsts[row];
         let left = clip_in(store, from, end, first, count, time);

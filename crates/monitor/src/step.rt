@@ -5,23 +5,25 @@ ghost use Rattle.std.specs.Prelude.{true, false, ◌≡◌, length};
 ghost use Rattle.std.proofs.Math.Option.{none};
 ghost use Rattle.meaning.specs.Heartbeat.{heartbeat?};
 ghost use Rattle.rules.specs.Rows.{rows_of};
-ghost use Rattle.monitor.specs.Core.{Unrefused, refused_told};
-ghost use Rattle.monitor.specs.Checked.{record_met, outcome_met, LeftIn};
+ghost use Rattle.monitor.specs.Core.{record_met, outcome_met, Unrefused, LeftIn, refused_told};
 ghost use Rattle.soundness.specs.Record.{record_of};
 ghost use Rattle.soundness.specs.Soundness.{sound?};
 ghost use Rattle.soundness.specs.Setup.{setup_of};
 ghost use Rattle.soundness.specs.Ready.{ready_of, refusal_in};
 ghost use Rattle.monitor.specs.Step.{event, frame, StepGives};
 
-use crate::answer::Judged;
-use crate::arrival::{Arrival, Told};
-use crate::checked;
-use crate::checked::refused;
+use crate::answer::{Answer, Judged};
+use crate::event::{Arrival, judge_rows};
+use crate::heartbeat::clip_rows;
+use refusals::refusal::Refusal;
+use row_list::verdict::verdict;
 use rules::limits::ROW_LIMIT;
 use rules::table::Checked;
 use soundness::fit::fit;
 use soundness::record::Record;
 use times::frame_time::time_shown;
+use times::mask::is_heartbeat;
+use times::time::TIME_LIMIT;
 
 // The verdict on an event, that a heartbeat moved the clock, or a refusal 1 to 3, 10, 11, 4, 7, 6 or 5, with the record after it. No word past the need is
 // written.
@@ -96,6 +98,15 @@ pub fn frame(
     give(told, rows, truths, counts, firsts)
 }
 
+// The answer, and what the record says of the times after it.
+#[derive(Drop)]
+pub(crate) struct Told {
+    pub(crate) answer: Answer,
+    pub(crate) seen: u8,
+    pub(crate) clock: u64,
+    pub(crate) last: u64,
+}
+
 // Refusals 1 to 3, 10, 11, 4 and 7, then what a sound record is answered.
 fn judge(
     table: &[u32],
@@ -124,22 +135,88 @@ fn judge(
     );
     match checked {
         Checked::Refused(refusal) => refused(refusal, arrival),
-        Checked::Passed { rows, need: _ } => {
-            let figures: [u32; 0] = [];
-            let mut before = [0; ROW_LIMIT];
-            checked::judge(
-                table,
-                list,
-                store,
-                rows as usize,
-                &figures,
-                arrival,
-                &mut before,
-                truths,
-                counts,
-                firsts,
-            )
-        }
+        Checked::Passed { rows, need: _ } => judge_sound(
+            table,
+            list,
+            store,
+            rows as usize,
+            arrival,
+            truths,
+            counts,
+            firsts,
+        ),
+    }
+}
+
+// Of a sound record: 6 and 5, then the clock or the rows.
+fn judge_sound(
+    table: &[u32],
+    list: &[u32],
+    store: &mut [u64],
+    rows: usize,
+    arrival: Arrival,
+    truths: &mut [u8; ROW_LIMIT],
+    counts: &mut [u32; ROW_LIMIT],
+    firsts: &mut [u32; ROW_LIMIT],
+) -> Told
+    requires store_value { (refusal_in (ready_of (setup_of table.now list.now) (length store.old)) ≡ none) × (rows ≡ rows_of table.now) }
+    requires firsts_value { sound? table.now store.old (record_met arrival rows truths.old counts.old firsts.old) ≡ true }
+    ensures { LeftIn (outcome_met (setup_of table.now list.now) store.old arrival rows truths.old counts.old firsts.old)
+        result truths.new counts.new firsts.new store.new }
+{
+    if TIME_LIMIT < arrival.time {
+        return refused(Refusal::Late, arrival);
+    }
+    if arrival.time < arrival.clock {
+        return refused(Refusal::Earlier, arrival);
+    }
+    if is_heartbeat(arrival.mask) {
+        clip_rows(table, store, rows, arrival.time, counts, firsts);
+        return Told {
+            answer: Answer::ClockMoved,
+            seen: arrival.seen,
+            clock: arrival.time,
+            last: arrival.last,
+        };
+    }
+    accept(table, list, store, rows, arrival, truths, counts, firsts)
+}
+
+// An event: the rows are judged beside a copy of the found truths; those of the listed rows are the verdict.
+fn accept(
+    table: &[u32],
+    list: &[u32],
+    store: &mut [u64],
+    rows: usize,
+    arrival: Arrival,
+    truths: &mut [u8; ROW_LIMIT],
+    counts: &mut [u32; ROW_LIMIT],
+    firsts: &mut [u32; ROW_LIMIT],
+) -> Told
+    requires unrefused { Unrefused (setup_of table.now list.now) store.old arrival rows truths.old counts.old firsts.old }
+    requires rows_value { (rows ≡ rows_of table.now) × (heartbeat? arrival.mask ≡ false) }
+    ensures { LeftIn (outcome_met (setup_of table.now list.now) store.old arrival rows truths.old counts.old firsts.old)
+        result truths.new counts.new firsts.new store.new }
+{
+    let found = *truths;
+    judge_rows(table, store, rows, arrival, &found, truths, counts, firsts);
+    Told {
+        answer: Answer::Verdict(verdict(truths, list)),
+        seen: 1,
+        clock: arrival.time,
+        last: arrival.time,
+    }
+}
+
+// A refused call leaves the arrays, and the times found.
+fn refused(fault: Refusal, arrival: Arrival) -> Told
+    ensures { result ≡ refused_told fault arrival }
+{
+    Told {
+        answer: Answer::Refused(fault),
+        seen: arrival.seen,
+        clock: arrival.clock,
+        last: arrival.last,
     }
 }
 

@@ -20,7 +20,7 @@ use Rattle.promises.specs.FrameTimes.{frame_counters, of_frames, FrameTimesAreTr
 use Rattle.promises.specs.Conditions.{ListServes}
 use Rattle.promises.proofs.Invariant.{Invariant}
 use Rattle.promises.proofs.StreamLaws.{keeps_cases}
-use Rattle.promises.proofs.StartRight.{start-ready, start_right}
+use Rattle.promises.proofs.StartRight.{start_ready, start_right}
 use Rattle.promises.proofs.CallKept.{kept_accepted, only_kept, next-kept}
 
 -- Call by call, the counter of a frame is that of its true time.
@@ -187,7 +187,7 @@ module _ (setup : Setup) (listed : ListServes setup.table setup.list) where
 pub frame_times_are_true : FrameTimesAreTrue
 unfolding kept true_events
 frame_times_are_true setup store calls times starts only same =
-    let listed = (start-ready setup store starts).listed in
+    let listed = (start_ready setup store starts).listed in
     let begun : Invariant setup.table [] 0 (started setup store) = start_right setup store starts in
     let call-by-call = counted calls times same in
     record {

@@ -20,7 +20,6 @@ pub mod TextRead
 pub mod TextAsIfNotMade
 pub mod SoundAfter
 pub mod SoundIsKept
-pub mod SoundRuns
 pub mod UpdateLaws
 pub mod OneEvent
 pub mod SpareWords

@@ -19,7 +19,7 @@ use Rattle.promises.specs.Conditions.{ListServes}
 use Rattle.promises.specs.OtherList.{SameButForBits, OtherList}
 use Rattle.promises.proofs.TableRefusals.{table-refuses, table_decided, listed-passes}
 use Rattle.promises.proofs.Refusing.{unrefused}
-use Rattle.promises.proofs.StartRight.{start-ready}
+use Rattle.promises.proofs.StartRight.{start_ready}
 
 -- A heartbeat moves the clock whatever the verdict would be.
 still_moved : (beat : Bool) (one another : ℕ) → cond beat clock_moved (verdict one) ≡ clock_moved → cond beat clock_moved (verdict another) ≡ clock_moved
@@ -76,7 +76,7 @@ other-list =
     record {
       call = λ table list other store found c listed other-listed. call_same table list other listed other-listed store found c;
       stream = λ table list other store other-listed starts calls.
-          let listed = (start-ready (setup_of table list) store starts).listed in
+          let listed = (start_ready (setup_of table list) store starts).listed in
           let begun = start_same table list other listed other-listed store in (
             rw (← begun) starts,
             rw (← begun) (after_same table list other listed other-listed (started (setup_of table list) store) calls),

@@ -22,7 +22,7 @@ use Rattle.promises.proofs.Invariant.{Invariant}
 use Rattle.promises.proofs.SpannedLaws.{spanned_enough}
 use Rattle.promises.proofs.InvariantLaws.{past, passes}
 use Rattle.promises.proofs.CallKept.{refused-only}
-use Rattle.promises.proofs.StartRight.{start-ready}
+use Rattle.promises.proofs.StartRight.{start_ready}
 use Rattle.promises.proofs.StreamKept.{stream-kept}
 
 module _ (setup : Setup) (store : List ℕ) (starts : Starts setup store) (calls : List Call) where
@@ -38,7 +38,7 @@ module _ (setup : Setup) (store : List ℕ) (starts : Starts setup store) (calls
       ⊎_elim
       (λ same. late (ap (λ fault. fault.number) same))
       (λ same. earlier (ap (λ fault. fault.number) same))
-      (refused-only (start-ready setup store starts).listed stream c (refused other) said)
+      (refused-only (start_ready setup store starts).listed stream c (refused other) said)
 
   runs-enough : (row : ℕ) (columns : Stretch) (S : List Span)
       → row < rows_of setup.table

@@ -21,7 +21,7 @@ use Rattle.monitor.specs.Event.{Moment, spans_by, spans_after, truths_after, spa
 use Rattle.spans.proofs.LayoutLaws.{laid-read}
 use Rattle.meaning.proofs.SoundKept.{clip-sound, sound-kept}
 use Rattle.meaning.proofs.Tells.{told_true}
-use Rattle.soundness.proofs.ReadyLaws.{table-ready}
+use Rattle.soundness.proofs.ReadyLaws.{table_ready}
 use Rattle.monitor.proofs.EventLaws.{Room}
 use Rattle.monitor.proofs.AcceptedLaws.{Accepted, now_enough}
 use Rattle.promises.specs.Conditions.{RowSound, StretchRight, RecordRight}
@@ -38,7 +38,7 @@ monitor_met : (m : Moment)
     → Accepted m.table m.store m.found m.time
 monitor_met m ready right early risen =
     record {
-      ready = table-ready m.table (length m.store) (record { passes = rw (table-passes m.table ready.right); room = ready.room });
+      ready = table_ready m.table (length m.store) (record { passes = rw (table-passes m.table ready.right); room = ready.room });
       sound = told_true (record_told m.table m.store ready m.found) right;
       early = early;
       risen = risen;

@@ -60,8 +60,8 @@ zeros_part from size n rest inside =
     )
 
 -- Where a start is good the table and the list are right and the store has room.
-pub start-ready : (setup : Setup) (store : List ℕ) → Starts setup store → Ready setup (length store)
-start-ready setup store starts =
+pub start_ready : (setup : Setup) (store : List ℕ) → Starts setup store → Ready setup (length store)
+start_ready setup store starts =
     ⊎_elim
     (λ ready. ready)
     (λ wrong.
@@ -79,11 +79,11 @@ module _ (setup : Setup) (store : List ℕ) (starts : Starts setup store) where
 
   started-fresh : started setup store ≡ fresh
   unfolding start_of
-  started-fresh = rw (start-passes setup (length store) (start-ready setup store starts))
+  started-fresh = rw (start-passes setup (length store) (start_ready setup store starts))
 
   fresh_length : length fresh.store ≡ length store
   fresh_length =
-      let room : need_of table ≤ length store = (start-ready setup store starts).room in
+      let room : need_of table ≤ length store = (start_ready setup store starts).room in
       simp (length-append, length-replicate, length-drop) (omega arith)
 
   -- No runs before the first event.
@@ -135,7 +135,7 @@ module _ (setup : Setup) (store : List ℕ) (starts : Starts setup store) where
         event = refl;
         time = refl;
         seen = refl;
-        ready = rw fresh_length (room_of (start-ready setup store starts));
+        ready = rw fresh_length (room_of (start_ready setup store starts));
         sized =
             record {
               truths = length-replicate {A = ℕ} row_limit 0;

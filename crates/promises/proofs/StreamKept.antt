@@ -9,7 +9,7 @@ use Rattle.monitor.specs.Step.{Call}
 use Rattle.promises.specs.Stream.{State, Starts, started, after, kept, state, history, clock}
 use Rattle.promises.specs.Conditions.{ListServes}
 use Rattle.promises.proofs.Invariant.{Invariant}
-use Rattle.promises.proofs.StartRight.{start-ready, start_right}
+use Rattle.promises.proofs.StartRight.{start_ready, start_right}
 use Rattle.promises.proofs.CallKept.{next-kept}
 
 calls-kept : (setup : Setup)
@@ -27,4 +27,4 @@ pub stream-kept : (setup : Setup) (store : List ℕ)
     → Invariant setup.table (history calls) (clock calls) (state setup store calls)
 unfolding true_events
 stream-kept setup store starts calls =
-    calls-kept setup (start-ready setup store starts).listed [] (started setup store) calls (start_right setup store starts)
+    calls-kept setup (start_ready setup store starts).listed [] (started setup store) calls (start_right setup store starts)

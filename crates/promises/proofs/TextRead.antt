@@ -13,11 +13,11 @@ use Rattle.promises.specs.TextRead.{place_after, until_end, lines_from, ReadWhol
 use Rattle.promises.proofs.Reading.{read_refused_exactly, place_moves}
 
 module _ (text : List ℕ) (place : ℕ) where
-  said_end : length text ≤ place → (read_frame text place).said ≡ at_end
-  said_end past = (read_refused_exactly.frame.ends text place).1 past
+  said-end : length text ≤ place → (read_frame text place).said ≡ at_end
+  said-end past = (read_refused_exactly.frame.ends text place).1 past
 
   stays : length text ≤ place → (read_frame text place).next ≡ place
-  stays past = (place_moves text place).ended (said_end past)
+  stays past = (place_moves text place).ended (said-end past)
 
   past_on : (next : ℕ) → place < length text → Past text place next → place < next
   past_on next before (first feed from fed others e) = omega arith
@@ -48,7 +48,7 @@ no_lines : (text : List ℕ) (place readings : ℕ) → length text ≤ place �
 unfolding lines_from
 no_lines text place zero past = refl
 no_lines text place (suc readings) past =
-    ap (λ (said : LineReply). until_end said (lines_from text (read_frame text place).next readings)) (said_end text place past)
+    ap (λ (said : LineReply). until_end said (lines_from text (read_frame text place).next readings)) (said-end text place past)
 
 no_more_lines : (text : List ℕ) (more place readings : ℕ)
     → length text ≤ place + readings

@@ -20,7 +20,7 @@ use Rattle.promises.specs.Stream.{Starts, event_of, state, history, clock, outco
 use Rattle.promises.specs.Conditions.{ListServes}
 use Rattle.promises.specs.Verdicts.{Answered, TruthsAreMeaning, judged_formula, VerdictIsMeaning}
 use Rattle.promises.proofs.Invariant.{Invariant}
-use Rattle.promises.proofs.StartRight.{start-ready}
+use Rattle.promises.proofs.StartRight.{start_ready}
 use Rattle.promises.proofs.CallKept.{kept-reply, moved-reply, late-reply, earlier-reply, call_kept, only-judged, only-moved}
 use Rattle.promises.proofs.StreamKept.{stream-kept}
 
@@ -29,7 +29,7 @@ module _ (setup : Setup) (store : List ℕ) (starts : Starts setup store) (calls
   before = stream-kept setup store starts calls
 
   listed : ListServes setup.table setup.list
-  listed = (start-ready setup store starts).listed
+  listed = (start_ready setup store starts).listed
 
   answered : Answered setup store calls c
   answered =

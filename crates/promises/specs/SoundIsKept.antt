@@ -4,7 +4,6 @@ use Rattle.rules.specs.Limits.{row_limit}
 use Rattle.soundness.specs.declared.record.Record.{Record}
 use Rattle.soundness.specs.Setup.{Setup}
 use Rattle.monitor.specs.Step.{Call, step_of}
-use Rattle.monitor.specs.Checked.{CheckedOf}
 use Rattle.promises.specs.Stream.{accepted?}
 use Rattle.promises.specs.Conditions.{RecordRight}
 
@@ -26,9 +25,3 @@ SoundIsKept = (setup : Setup) (store : List ℕ) (found : Record) (c : Call)
     → Sized found
     → T (accepted? (step_of setup store found c).reply)
     → StaysSound setup store found c
-
--- What passes the check that every call begins with, and with it the sizes. A call that is accepted or refused leaves what passes again, so that one check
--- serves many calls.
-pub record Passes (setup : Setup) (store : List ℕ) (found : Record) : Type 0 where
-  pub checked : CheckedOf setup store found
-  pub sized : Sized found

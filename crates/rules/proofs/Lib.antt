@@ -3,7 +3,6 @@ pub mod RowFitsLaws
 pub mod RowsLaws
 pub mod FigureLaws
 pub mod StretchesLaws
-pub mod FiguresLaws
 pub mod TableLaws
 pub mod PassedLaws
 pub mod RowFormulaLaws

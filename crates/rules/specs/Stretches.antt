@@ -1,5 +1,5 @@
 -- The stretches of a table's rows in the store (document 01, "Spans, store and record").
-use Rattle.std.specs.Prelude.{List, ◌≡◌, ℕ, zero, suc, ◌+◌, ◌*◌, ◌<◌, length, get_or}
+use Rattle.std.specs.Prelude.{List, ℕ, zero, suc, ◌+◌, ◌*◌}
 use Rattle.meaning.specs.Interval.{end_of}
 use Rattle.meaning.specs.Figure.{figure}
 use Rattle.spans.specs.Layout.{span_words}
@@ -27,7 +27,3 @@ offset table (suc row) = offset table row + width (numbers_at table row)
 -- "The sum over since rows, in words, is the need": where the last stretch ends.
 abbrev pub need_of : List ℕ → ℕ
 need_of table = offset table (rows_of table)
-
--- Numbers that are the spans of the first rows, as many as there are.
-abbrev pub Decoded : (table figures : List ℕ) → Type 0
-Decoded table figures = (row : ℕ) → row < length figures → get_or figures row 0 ≡ spans_of (numbers_at table row)

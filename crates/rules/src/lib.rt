@@ -1,6 +1,5 @@
 // The rule table.
 
-pub mod figures;
 pub mod limits;
 pub mod numbers;
 pub mod plain;

@@ -1,7 +1,6 @@
 // The five numbers of a row, read from the lent table.
 
-ghost use Rattle.std.specs.Prelude.{◌≡◌, ◌≤◌, ◌+◌, ◌*◌, length, get_or};
-ghost use Rattle.rules.specs.Limits.{row_numbers};
+ghost use Rattle.std.specs.Prelude.{◌≡◌, get_or};
 ghost use Rattle.rules.specs.Rows.{numbers_at};
 
 use crate::limits::ROW_NUMBERS;
@@ -36,21 +35,6 @@ pub fn numbers_at(table: &[u32], row: usize) -> Numbers
         y: number_at(table, start + 2),
         a: number_at(table, start + 3),
         b: number_at(table, start + 4),
-    }
-}
-
-// The numbers of a row that the table has, for whoever has checked that it does: nothing more is asked.
-pub fn numbers_in(table: &[u32], row: usize) -> Numbers
-    requires { row_numbers * (row + 1) ≤ length table.now }
-    ensures { result ≡ numbers_at table.now row }
-{
-    let start = row * ROW_NUMBERS;
-    Numbers {
-        kind: table[start],
-        x: table[start + 1],
-        y: table[start + 2],
-        a: table[start + 3],
-        b: table[start + 4],
     }
 }
 

@@ -298,9 +298,9 @@ zeros-next words i end h l =
     let e : end - i ≡ suc (end - (i + 1)) = omega arith in
     rw (e, drop-cons words i 0 (omega arith), add-one i) refl
 
-pub zeros_end : (words : List ℕ) (i end : ℕ) → end ≤ i → zeros? (take (end - i) (drop i words)) ≡ true
+pub zeros-end : (words : List ℕ) (i end : ℕ) → end ≤ i → zeros? (take (end - i) (drop i words)) ≡ true
 unfolding zeros?
-zeros_end words i end h =
+zeros-end words i end h =
     let e : end - i ≡ 0 = omega arith in
     rw e refl
 

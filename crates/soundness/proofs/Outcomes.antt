@@ -11,8 +11,8 @@ use Rattle.soundness.specs.Setup.{Setup}
 use Rattle.soundness.specs.Ready.{Readies}
 use Rattle.soundness.specs.Fit.{Fits}
 
-pub one-ready : (setup : Setup) (size : ℕ) (p q : Checked) → Readies setup size p → Readies setup size q → p ≡ q
-one-ready setup size = one-said check_reply answer_of answer_back
+pub one_ready : (setup : Setup) (size : ℕ) (p q : Checked) → Readies setup size p → Readies setup size q → p ≡ q
+one_ready setup size = one-said check_reply answer_of answer_back
 
 pub one_fit : (setup : Setup) (store : List ℕ) (found : Record) (p q : Checked) → Fits setup store found p → Fits setup store found q → p ≡ q
 one_fit setup store found = one-said check_reply answer_of answer_back

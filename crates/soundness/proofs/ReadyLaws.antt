@@ -28,8 +28,8 @@ passed_by : (said : CheckReply) → refusal_in said ≡ none → (rows : ℕ) ×
 passed_by (passed rows need) h = (rows, need, refl)
 passed_by (refused_by fault) h = let z : ◌≡◌ {A = ℕ} 0 1 = cc in absurd (omega arith)
 
-pub table-ready : (table : List ℕ) (size : ℕ) → TableReady table size → Ready table size (rows_of table)
-table-ready table size h =
+pub table_ready : (table : List ℕ) (size : ℕ) → TableReady table size → Ready table size (rows_of table)
+table_ready table size h =
     let by = passed_by (check_of table) h.passes in
     let given : Passed table by.0 by.1 = passed_gives table by.0 by.1 by.2 in
     let counted : by.0 ≡ rows_of table = given.counted in
@@ -70,13 +70,13 @@ reached_parts table list rows need (passed r n) h = go (ltb (lowest_dead table l
     go false e = e
 
 -- What is left to decide where table and list pass. Such a table has no more rows than are looked at for a dead one.
-pub ready-listed : (table list : List ℕ) (size : ℕ) {rows need dead : ℕ}
+pub ready_listed : (table list : List ℕ) (size : ℕ) {rows need dead : ℕ}
     → check_of table ≡ passed rows need
     → list_passes list rows ≡ true
     → dead ≡ lowest_dead table list (min rows row_limit)
     → ready_of (setup_of table list) size ≡ with_room size (cond (ltb dead rows) (refused_by (refused (DeadRow dead))) (passed rows need))
 unfolding ready_of
-ready-listed table list size {rows} {need} {dead} checked passes told =
+ready_listed table list size {rows} {need} {dead} checked passes told =
     let given : Passed table rows need = passed_gives table rows need checked in
     let all : min rows row_limit ≡ rows = omega (arith, given.few-rows) in
     let lowest : lowest_dead table list rows ≡ dead = sym (rw all at told) in
@@ -109,22 +109,22 @@ ready_gives setup size rows need h =
     let needed : need ≡ need_of setup.table = given.needed in
     record { table = record { passes = rw needed at given; room = omega (arith, parts.room) }; listed = parts.listed }
 
-pub ready-room : (setup : Setup) (size rows need : ℕ) → ready_of setup size ≡ passed rows need → need ≤ size
-ready-room setup size rows need h = (ready_parts setup size rows need h).room
+pub ready_room : (setup : Setup) (size rows need : ℕ) → ready_of setup size ≡ passed rows need → need ≤ size
+ready_room setup size rows need h = (ready_parts setup size rows need h).room
 
-pub ready-need : (setup : Setup) (size rows need : ℕ) → ready_of setup size ≡ passed rows need → need ≡ need_of setup.table
-ready-need setup size rows need h = (passed_gives setup.table rows need (ready_parts setup size rows need h).checked).needed
+pub ready_need : (setup : Setup) (size rows need : ℕ) → ready_of setup size ≡ passed rows need → need ≡ need_of setup.table
+ready_need setup size rows need h = (passed_gives setup.table rows need (ready_parts setup size rows need h).checked).needed
 
 -- The same where no refusal is met, with the table's own row count.
-pub ready-none : (setup : Setup) (size : ℕ) → refusal_in (ready_of setup size) ≡ none → SetupReady setup size (rows_of setup.table)
-ready-none setup size h =
+pub ready_none : (setup : Setup) (size : ℕ) → refusal_in (ready_of setup size) ≡ none → SetupReady setup size (rows_of setup.table)
+ready_none setup size h =
     let by = passed_by (ready_of setup size) h in
     let given : SetupReady setup size by.0 = ready_gives setup size by.0 by.1 by.2 in
     let counted : by.0 ≡ rows_of setup.table = given.table.passes.counted in
     rw counted at given
 
 -- What soundness needs of it.
-pub ready-table : (setup : Setup) (size rows need : ℕ) → ready_of setup size ≡ passed rows need → TableReady setup.table size
-ready-table setup size rows need h =
+pub ready_table : (setup : Setup) (size rows need : ℕ) → ready_of setup size ≡ passed rows need → TableReady setup.table size
+ready_table setup size rows need h =
     let checked : check_of setup.table ≡ passed rows need = (ready_parts setup size rows need h).checked in
     record { passes = rw checked; room = (ready_gives setup size rows need h).table.room }

@@ -70,9 +70,9 @@ step_ready m room piece rows size = rw (le-leb _ _ rows, le-leb _ _ size)
 
 module _ (m : Memory) (room : ℕ) (piece : List ℕ) (used : ℕ) where
   -- No byte is left, or no room.
-  pub feed_end : length piece ≤ used → feed m room (drop used piece) ≡ no_feeding m
+  pub feed-end : length piece ≤ used → feed m room (drop used piece) ≡ no_feeding m
   unfolding feed
-  feed_end end = rw (drop_of_length-le piece end)
+  feed-end end = rw (drop_of_length-le piece end)
 
   pub feed-full : used < length piece → room < longest_reply → feed m room (drop used piece) ≡ no_feeding m
   unfolding feed

@@ -26,7 +26,7 @@ use Rattle.monitor.specs.Step.{Call, time_of, frame_of}
 use Rattle.promises.specs.Stream.{Starts, after, state, clock, outcome}
 use Rattle.promises.proofs.StreamLaws.{one_more}
 use Rattle.promises.proofs.CallKept.{call_kept, clock-kept}
-use Rattle.promises.proofs.StartRight.{start-ready}
+use Rattle.promises.proofs.StartRight.{start_ready}
 use Rattle.promises.proofs.StreamKept.{stream-kept}
 use Rattle.promises.proofs.Verdicts.{truths_are_meaning, verdict_is_meaning}
 use Rattle.lines.specs.Lines.{lines_of}
@@ -51,7 +51,7 @@ frame_meant : (setup : Setup) (calls : List Call) (c : Call) → Starts setup em
 frame_meant setup calls c starts =
     let answered = (truths_are_meaning setup empty_store starts calls).answered c in
     let before = stream-kept setup empty_store starts calls in
-    let listed = (start-ready setup empty_store starts).listed in
+    let listed = (start_ready setup empty_store starts).listed in
     record {
       judged = λ keeps no-beat.
           let told = answered.judged keeps no-beat in

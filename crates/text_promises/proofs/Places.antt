@@ -21,9 +21,9 @@ use Rattle.lines.specs.Lines.{lines_going_on, lines_of}
 use Rattle.text_promises.specs.Places.{LinesAreReadings}
 
 -- At the end "end" is said, before it something of a line.
-said_end : (text : List ℕ) (place : ℕ) → length text ≤ place → (read_frame text place).said ≡ at_end
+said-end : (text : List ℕ) (place : ℕ) → length text ≤ place → (read_frame text place).said ≡ at_end
 unfolding line_at
-said_end text place past = rw (le-leb _ _ past)
+said-end text place past = rw (le-leb _ _ past)
 
 more-said : (text : List ℕ) (place : ℕ) (more : List LineReply) → place < length text
     → until_end (read_frame text place).said more ≡ (read_frame text place).said ∷ more
@@ -66,7 +66,7 @@ readings text place (suc n) enough =
     by_test (leb (length text) place)
     (λ past.
     let at_end_lem : length text ≤ place = leb-true _ _ past in
-    rw (drop_of_length-le text at_end_lem, said_end text place at_end_lem))
+    rw (drop_of_length-le text at_end_lem, said-end text place at_end_lem))
     (λ more.
     let within : place < length text = leb-false _ _ more in
     let next : (read_frame text place).next ≡ place + past_first (drop place text) = next_is text place within in

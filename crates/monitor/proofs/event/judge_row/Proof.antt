@@ -6,6 +6,12 @@ use Rattle.monitor.proofs.RowLaws.{StretchRead, ends-within, stretch-ready, stre
 use Rattle.monitor.proofs.event.judge_row.Statement.{statement}
 use Rattle.monitor.proofs.event.judge_row.Tie as tie
 
+words-requires : tie.Need-words-requires
+words-requires c κs = search rules
+
+add-end : tie.Need-overflow-add-end
+add-end c = omega (arith, ends-within c.before.before.requires c.words.ensures)
+
 is-owned-requires : tie.Need-is-owned-requires
 is-owned-requires c κs = search rules
 
@@ -22,11 +28,11 @@ feeds-requires c κs = search rules
 abbrev columns_of : tie.After-feeds → tie.After-columns
 columns_of c = c.before.before
 
-abbrev at-start : tie.After-feeds → tie.Start
-at-start c = (columns_of c).before.before.before.before
+abbrev words_of : tie.After-feeds → tie.After-words
+words_of c = (columns_of c).before.before.before
 
 names : (c : tie.After-feeds)
-    → StretchRead (at-start c).args.truths.now (at-start c).args.numbers (columns_of c).columns.result
+    → StretchRead (words_of c).before.before.args.truths.now (words_of c).before.before.args.numbers (columns_of c).columns.result
     c.before.keeps.result c.feeds.result
 names c =
     record {
@@ -36,30 +42,28 @@ names c =
       fed = c.feeds.ensures;
     }
 
-add-judge-stretch : tie.Need-overflow-add-judge-stretch
-add-judge-stretch c = omega (arith, ends-within (at-start c.before).requires.1 (at-start c.before).requires.0)
-
 judge-stretch-requires : tie.Need-judge-stretch-requires
 judge-stretch-requires c κs =
-    let row = (at-start c.before).requires in
-    (row.1.early, stretch-ready row.1 row.0 (names c.before))
+    let w = words_of c.before in
+    let ready = w.before.before.pre in
+    (ready.early, stretch-ready ready w.words.ensures (names c.before))
 
 taken-requires : tie.Need-taken-requires
 taken-requires c κs = search rules
 
-cast-t22 : tie.Need-overflow-cast-t22
-cast-t22 c =
-    let j = c.before.before.before.before.before in
-    let t = j.before.before in
-    let row = (at-start t).requires in
-    record { fits = stretch-count row.1 row.0 (names t) j.judge-stretch.ensures }
-
 cast-t23 : tie.Need-overflow-cast-t23
 cast-t23 c =
+    let j = c.before.before.before.before.before in
+    let t = j.before.before in
+    let w = words_of t in
+    record { fits = stretch-count w.before.before.pre w.words.ensures (names t) j.judge-stretch.ensures }
+
+cast-t24 : tie.Need-overflow-cast-t24
+cast-t24 c =
     let j = c.before.before.before.before.before.before in
     let t = j.before.before in
-    let row = (at-start t).requires in
-    record { fits = stretch-first row.1 row.0 (names t) j.judge-stretch.ensures }
+    let w = words_of t in
+    record { fits = stretch-first w.before.before.pre w.words.ensures (names t) j.judge-stretch.ensures }
 
 same_length : tie.Need-same-length
 same_length c = search rules
@@ -68,33 +72,34 @@ returns : tie.Need-returns
 returns c =
     let j = c.before.before.before.before.before.before in
     let t = j.before.before in
-    let row = (at-start t).requires in
-    stretch-judged row.1 row.0 (names t) j.judge-stretch.ensures c.before.before.taken.ensures
+    let w = words_of t in
+    stretch-judged w.before.before.pre w.words.ensures (names t) j.judge-stretch.ensures c.before.before.taken.ensures
 
 judge-plain-requires : tie.Need-judge-plain-requires
 judge-plain-requires c κs =
-    let row = c.before.before.before.requires in
-    (sym c.before.is-owned.ensures ∙ c.if1.false, row.1.x-listed, row.1.y-listed)
+    let w = c.before.before in
+    (sym c.before.is-owned.ensures ∙ c.if1.false, w.before.before.requires.x-listed, w.before.before.requires.y-listed)
 
 returns-2 : tie.Need-returns-2
 returns-2 c =
     let b = c.before.before in
-    let row = b.before.before.requires in
-    plain-judged row.1 row.0 (sym b.is-owned.ensures ∙ c.before.if1.false) (c.judge-plain.ensures _)
+    let w = b.before in
+    plain-judged w.before.before.requires w.words.ensures (sym b.is-owned.ensures ∙ c.before.if1.false) (c.judge-plain.ensures _)
 
 pub judge-row-spec : {M : Type 1} → statement M
 judge-row-spec =
     tie.close
     (tie.spec
+    words-requires
+    add-end
     is-owned-requires
     columns-requires
     keeps-requires
     feeds-requires
-    add-judge-stretch
     judge-stretch-requires
     taken-requires
-    cast-t22
     cast-t23
+    cast-t24
     same_length
     returns
     judge-plain-requires

@@ -15,41 +15,44 @@ use Rattle.monitor.proofs.heartbeat.clip_rows.Statement.{statement}
 use Rattle.monitor.proofs.heartbeat.clip_rows.Tie as tie
 
 abbrev invariant-loop : tie.invariant-loop
-invariant-loop table store₀ rows figures time counts₀ firsts₀ from₀ row₀ store counts firsts from row =
+invariant-loop table store₀ rows time counts₀ firsts₀ from₀ row₀ store counts firsts from row =
     (row ≤ rows)
     × (from ≡ offset table row)
     × SpansLeft table store₀ counts₀ firsts₀ (ring_clipped table store₀ counts₀ firsts₀ time) row counts firsts store
 
 abbrev decreases-loop : tie.decreases-loop
-decreases-loop table store₀ rows figures time counts₀ firsts₀ from₀ row₀ store counts firsts from row = rows - row
+decreases-loop table store₀ rows time counts₀ firsts₀ from₀ row₀ store counts firsts from row = rows - row
 
 loop-holds : tie.Need-loop-init invariant-loop decreases-loop
 unfolding offset entries_with words_done store_with
 loop-holds c = (omega arith, refl, record { counts_are = refl; firsts_are = refl; store_is = refl })
 
-words-at-requires : tie.Need-words-at-requires invariant-loop decreases-loop
-words-at-requires c κs = c.before.before.before.before.before.requires.1
+numbers-at-requires : tie.Need-numbers-at-requires invariant-loop decreases-loop
+numbers-at-requires c κs = search rules
+
+words-requires : tie.Need-words-requires invariant-loop decreases-loop
+words-requires c κs = search rules
 
 -- The store keeps its length.
-same_size : (c : tie.At-loop invariant-loop decreases-loop) → length c.loop.store ≡ length c.before.before.before.before.args.store.now
-same_size c = ap length c.loop.invariant.2.store_is ∙ length_clipped _ _ _ _ _ _ c.before.before.before.before.requires.0 _ c.loop.invariant.0
+same_size : (c : tie.At-loop invariant-loop decreases-loop) → length c.loop.store ≡ length c.before.before.before.args.store.now
+same_size c = ap length c.loop.invariant.2.store_is ∙ length_clipped _ _ _ _ _ _ c.before.before.before.requires _ c.loop.invariant.0
 
 -- The row is one of the table's, and its stretch can be clipped.
 few : (c : tie.In-loop invariant-loop decreases-loop) → c.before.loop.row < row_limit
-few c = omega (arith, c.before.before.before.before.before.requires.0.few)
+few c = omega (arith, c.before.before.before.before.requires.few)
 
-module _ (c : tie.After-words-at invariant-loop decreases-loop) where
+module _ (c : tie.After-words invariant-loop decreases-loop) where
   abbrev turn : tie.In-loop invariant-loop decreases-loop
-  turn = c.before
+  turn = c.before.before
 
   abbrev at-start : tie.Start invariant-loop decreases-loop
-  at-start = turn.before.before.before.before.before
+  at-start = turn.before.before.before.before
 
-  ready : ClipReady turn.before.loop.from (turn.before.loop.from + c.words-at.result) turn.before.loop.store
+  ready : ClipReady turn.before.loop.from (turn.before.loop.from + c.words.result) turn.before.loop.store
       (held_of (get_or turn.before.loop.firsts turn.before.loop.row 0) (get_or turn.before.loop.counts turn.before.loop.row 0))
   ready =
-      clip-ready _ _ _ _ _ _ at-start.pre.0 (omega arith) turn.before.loop.inv.1 turn.before.loop.inv.2
-      refl c.words-at.ensures refl refl
+      clip-ready _ _ _ _ _ _ at-start.pre (omega arith) turn.before.loop.inv.1 turn.before.loop.inv.2
+      c.before.numbers-at.ensures c.words.ensures refl refl
 
 add-end : tie.Need-overflow-add-end invariant-loop decreases-loop
 add-end c = omega (arith, (ready c).inside, same_size (turn c).before)
@@ -71,7 +74,7 @@ clip-in-requires c κs = ready c.before.before.before
 
 -- What is left of the row's spans.
 module _ (c : tie.After-clip-in invariant-loop decreases-loop) where
-  abbrev words_of : tie.After-words-at invariant-loop decreases-loop
+  abbrev words_of : tie.After-words invariant-loop decreases-loop
   words_of = c.before.before.before.before
 
   abbrev loop-of : tie.At-loop invariant-loop decreases-loop
@@ -80,13 +83,13 @@ module _ (c : tie.After-clip-in invariant-loop decreases-loop) where
   -- It is counted by numbers of the record.
   counts-fit : c.clip_in_lem.result.count < 2 ^ 32
   counts-fit =
-      clip-counts _ _ _ _ _ _ (at-start words_of).pre.0 (omega arith) loop-of.loop.inv.1 loop-of.loop.inv.2
-      refl words_of.words-at.ensures refl refl c.clip_in_lem.ensures
+      clip-counts _ _ _ _ _ _ (at-start words_of).pre (omega arith) loop-of.loop.inv.1 loop-of.loop.inv.2
+      words_of.before.numbers-at.ensures words_of.words.ensures refl refl c.clip_in_lem.ensures
 
   places_fit : c.clip_in_lem.result.first < 2 ^ 32
   places_fit =
-      clip-places _ _ _ _ _ _ (at-start words_of).pre.0 (omega arith) loop-of.loop.inv.1 loop-of.loop.inv.2
-      refl words_of.words-at.ensures refl refl c.clip_in_lem.ensures
+      clip-places _ _ _ _ _ _ (at-start words_of).pre (omega arith) loop-of.loop.inv.1 loop-of.loop.inv.2
+      words_of.before.numbers-at.ensures words_of.words.ensures refl refl c.clip_in_lem.ensures
 
 cast-counts : tie.Need-overflow-cast-counts invariant-loop decreases-loop
 cast-counts c = record { fits = counts-fit c.before.before.before }
@@ -118,8 +121,8 @@ loop-again c =
     let w = words_of d in
     let l = (loop-of d).loop in (
       omega arith,
-      clip-next _ _ _ _ _ _ (at-start w).pre.0 (omega arith) l.inv.1 l.inv.2 refl w.words-at.ensures refl refl,
-      clip-turn _ _ _ _ _ _ (at-start w).pre.0 (omega arith) l.inv.1 l.inv.2 refl w.words-at.ensures refl refl
+      clip-next _ _ _ _ _ _ (at-start w).pre (omega arith) l.inv.1 l.inv.2 w.before.numbers-at.ensures w.words.ensures refl refl,
+      clip-turn _ _ _ _ _ _ (at-start w).pre (omega arith) l.inv.1 l.inv.2 w.before.numbers-at.ensures w.words.ensures refl refl
           d.clip_in_lem.ensures,
     )
 
@@ -128,7 +131,7 @@ same_length c = same_size c.before
 
 returns : tie.Need-returns invariant-loop decreases-loop
 returns c =
-    let all : c.before.loop.row ≡ c.before.before.before.before.before.args.rows = omega arith in
+    let all : c.before.loop.row ≡ c.before.before.before.before.args.rows = omega arith in
     rw all at c.before.loop.invariant.2
 
 pub clip-rows-spec : {M : Type 1} → statement M
@@ -138,7 +141,8 @@ clip-rows-spec =
     invariant-loop
     decreases-loop
     loop-holds
-    words-at-requires
+    numbers-at-requires
+    words-requires
     add-end
     mul-count
     element-copy-out-count

@@ -8,7 +8,7 @@ use borrow.Rule.Slice.PartMut.{mid_len, Post-is}
 use lib.ListN.{length}
 use Rattle.rules.specs.Table.{check_reply}
 use Rattle.monitor.specs.Start.{start_of}
-use Rattle.soundness.proofs.ReadyLaws.{ready-room}
+use Rattle.soundness.proofs.ReadyLaws.{ready_room}
 use Rattle.monitor.proofs.start.start.Statement.{statement}
 use Rattle.monitor.proofs.start.start.Tie as tie
 
@@ -17,7 +17,7 @@ abbrev words-needed : tie.After-known-told2 → ℕ
 words-needed c = c.before.checked2.given.0.1.0
 
 need-fits : (c : tie.After-known-told2) → words-needed c ≤ length c.before.before.before.before.before.before.before.args.store.now
-need-fits c = ready-room _ _ _ _ (sym c.before.before.before.ready.ensures ∙ ap check_reply c.before.checked2.given.1)
+need-fits c = ready_room _ _ _ _ (sym c.before.before.before.ready.ensures ∙ ap check_reply c.before.checked2.given.1)
 
 ready-requires : tie.Need-ready-requires
 ready-requires c κs = search rules

@@ -1,14 +1,10 @@
 -- `monitor::step::judge` meets its contract: a refusal 1 to 3, 10, 11, 4 or 7, or what `judge_sound` says. Assumes nothing.
 use mathlib.Core.Path.{◌≡◌, sym, ap, ◌∙◌}
-use native.Mathlib.Omega.{arith}
-use Prim.Native.Nat.{ℕ}
-use lib.ListN.{length-replicate}
-use Rattle.rules.specs.Limits.{row_limit}
 use borrow.Author.Rules.{rules}
 use Rattle.rules.specs.Table.{check_reply}
 use Rattle.soundness.specs.declared.record.Record.{Record}
 use Rattle.soundness.specs.Setup.{setup_of}
-use Rattle.monitor.specs.Checked.{record_met}
+use Rattle.monitor.specs.Core.{record_met}
 use Rattle.soundness.proofs.SoundnessLaws.{sound_parts}
 use Rattle.monitor.proofs.StepLaws.{left-refused, fit_refused, Fit, fit_gives}
 use Rattle.monitor.proofs.step.judge.Statement.{statement}
@@ -40,16 +36,13 @@ module _ (c : tie.After-known-told2) where
   counted : at-start.args.count ≡ c.before.checked2.given.0.0
   counted = (sound_parts _ _ _ fits.sound).counted ∙ sym fits.counted
 
-cast-judge : tie.Need-overflow-cast-judge
-cast-judge c = search rules
+cast-judge-sound : tie.Need-overflow-cast-judge-sound
+cast-judge-sound c = search rules
 
-slice-aggregate-judge : tie.Need-slice-aggregate-judge
-slice-aggregate-judge c = search rules
-
-judge-requires : tie.Need-judge-requires
-judge-requires c κs =
-    let known = c.before.before.before.before.before.before in
-    (record { ready = (fits known).ready; counted = (fits known).counted; sound = rw (← (counted known)) (fits known).sound }, record { decoded = λ row none. absurd (omega arith); room = length-replicate {A = ℕ} row_limit 0 })
+judge-sound-requires : tie.Need-judge-sound-requires
+judge-sound-requires c κs =
+    let known = c.before.before.before.before in
+    (((fits known).ready, (fits known).counted), rw (← (counted known)) (fits known).sound)
 
 same_length : tie.Need-same-length
 same_length c = search rules
@@ -67,7 +60,7 @@ same-length-2 c = search rules
 returns-2 : tie.Need-returns-2
 returns-2 c =
     let j = c.before.before in
-    rw (counted j.before.before.before.before.before.before.before) j.judge.ensures.0
+    rw (counted j.before.before.before.before.before) j.judge-sound.ensures
 
 pub judge-spec : {M : Type 1} → statement M
 judge-spec =
@@ -77,9 +70,8 @@ judge-spec =
     enum-known-checked
     refused-requires
     enum-known-checked-2
-    cast-judge
-    slice-aggregate-judge
-    judge-requires
+    cast-judge-sound
+    judge-sound-requires
     same_length
     returns
     same-length-2

@@ -6,7 +6,7 @@ use native.Mathlib.Omega.{arith}
 use borrow.Author.Tests.{eq-eqb, ne_eqb}
 use lib.ListN.{take, drop}
 use Rattle.spans.specs.Layout.{zeros?}
-use Rattle.sound_spans.proofs.SoundSteps.{zeros-next, zeros_end}
+use Rattle.sound_spans.proofs.SoundSteps.{zeros-next, zeros-end}
 use Rattle.sound_spans.proofs.stretch.zeros_between.Statement.{statement}
 use Rattle.sound_spans.proofs.stretch.zeros_between.Tie as tie
 
@@ -48,7 +48,7 @@ loop-again c =
 returns-2 : tie.Need-returns-2 invariant-loop decreases-loop
 returns-2 c =
     let args = c.before.before.args in
-    sym (c.before.loop.invariant ∙ zeros_end args.words.now _ args.end (omega arith))
+    sym (c.before.loop.invariant ∙ zeros-end args.words.now _ args.end (omega arith))
 
 pub zeros-between-spec : {M : Type 1} → statement M
 zeros-between-spec =

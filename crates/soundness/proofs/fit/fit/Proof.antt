@@ -3,7 +3,7 @@ use mathlib.Core.Path.{sym, ap, ◌∙◌}
 use borrow.Author.Rules.{rules}
 use Rattle.rules.specs.Table.{check_reply}
 use Rattle.soundness.specs.Fit.{fit_of}
-use Rattle.soundness.proofs.ReadyLaws.{ready_gives, ready-table}
+use Rattle.soundness.proofs.ReadyLaws.{ready_gives, ready_table}
 use Rattle.soundness.proofs.fit.fit.Statement.{statement}
 use Rattle.soundness.proofs.fit.fit.Tie as tie
 
@@ -22,7 +22,7 @@ cast-sound-record c = search rules
 sound-record-requires : tie.Need-sound-record-requires
 sound-record-requires c κs =
     let passes = sym c.before.before.before.ready.ensures ∙ ap check_reply c.before.checked2.given.1 in
-    (ready-table _ _ _ _ passes, (ready_gives _ _ _ _ passes).table.passes.counted)
+    (ready_table _ _ _ _ passes, (ready_gives _ _ _ _ passes).table.passes.counted)
 
 returns : tie.Need-returns
 unfolding fit_of

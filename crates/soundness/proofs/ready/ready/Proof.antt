@@ -11,7 +11,7 @@ use Rattle.refusals.specs.declared.refusal.Refusal.TheVariants.{DeadRow}
 use Rattle.rules.specs.Table.{passed, refused_by, check_reply}
 use Rattle.soundness.specs.Setup.{setup_of}
 use Rattle.soundness.specs.Ready.{with_room, ready_of}
-use Rattle.soundness.proofs.ReadyLaws.{ready-listed}
+use Rattle.soundness.proofs.ReadyLaws.{ready_listed}
 use Rattle.soundness.proofs.ready.ready.Statement.{statement}
 use Rattle.soundness.proofs.ready.ready.Tie as tie
 
@@ -58,7 +58,7 @@ module _ (c : tie.After-lowest-dead) where
   left : ready_of (setup_of at-start.args.table.now at-start.args.list.now) at-start.args.size
       ≡ with_room at-start.args.size (cond (ltb c.lowest-dead.result rows) (refused_by (refused (DeadRow c.lowest-dead.result))) (passed rows need))
   left =
-      ready-listed at-start.args.table.now at-start.args.list.now at-start.args.size
+      ready_listed at-start.args.table.now at-start.args.list.now at-start.args.size
       (sym told.before.before.check.ensures ∙ ap check_reply told.checked.given.1)
       (sym listed.passes.ensures ∙ not-false listed.passes.result c.before.if1.false)
       c.lowest-dead.ensures

@@ -7,7 +7,7 @@ use Rattle.rules.specs.Rows.{rows_of}
 use Rattle.soundness.specs.declared.record.Record.{Record}
 use Rattle.soundness.specs.Record.{record_of}
 use Rattle.soundness.specs.Soundness.{every, sound_row?, sound_times?}
-use Rattle.soundness.proofs.ReadyLaws.{table-ready}
+use Rattle.soundness.proofs.ReadyLaws.{table_ready}
 use Rattle.soundness.proofs.SoundnessLaws.{times-within, rows-counted, unsound_count, unsound-time, unsound-row, sound-by-past}
 use Rattle.soundness.proofs.soundness.sound_record.Statement.{statement}
 use Rattle.soundness.proofs.soundness.sound_record.Tie as tie
@@ -53,7 +53,7 @@ rows_told c =
 zero-past-requires : tie.Need-zero-past-requires
 zero-past-requires c κs =
     let start = at-start c.before.before.before.before in
-    omega (arith, start.pre.1, (table-ready _ _ start.pre.0).passes.few-rows)
+    omega (arith, start.pre.1, (table_ready _ _ start.pre.0).passes.few-rows)
 
 returns-2 : tie.Need-returns-2
 returns-2 c =

@@ -15,7 +15,7 @@ use Rattle.spans.specs.Layout.{span_words}
 use Rattle.soundness.specs.declared.record.Record.{Record}
 use Rattle.soundness.specs.Record.{record_of}
 use Rattle.soundness.specs.Soundness.{every, sound_row?}
-use Rattle.soundness.proofs.ReadyLaws.{Ready, table-ready}
+use Rattle.soundness.proofs.ReadyLaws.{Ready, table_ready}
 use Rattle.soundness.proofs.SoundnessLaws.{every_not, every_more, row_told, offset-next, stretch-fits}
 use Rattle.soundness.proofs.soundness.sound_rows.Statement.{statement}
 use Rattle.soundness.proofs.soundness.sound_rows.Tie as tie
@@ -43,7 +43,7 @@ module _ (c : tie.After-spans invariant-loop decreases-loop) where
   at-start = c.before.before.before.before.before.before
 
   abbrev ready : Ready at-start.args.table.now (length at-start.args.store.now) (rows_of at-start.args.table.now)
-  ready = table-ready at-start.args.table.now (length at-start.args.store.now) at-start.pre.0
+  ready = table_ready at-start.args.table.now (length at-start.args.store.now) at-start.pre.0
 
   abbrev kept : Record
   kept =

@@ -10,7 +10,7 @@ use Rattle.text.specs.declared.state.Held.{Held}
 use Rattle.text.specs.declared.state.Stage.{Stage}
 use Rattle.text.specs.Turn.{desk}
 use Rattle.text.specs.Feed.{Memory}
-use Rattle.text.proofs.FeedLaws.{Going, going_first, going_ends, going-byte, going-line, feed_end, feed-full}
+use Rattle.text.proofs.FeedLaws.{Going, going_first, going_ends, going-byte, going-line, feed-end, feed-full}
 use Rattle.text.proofs.feed.feed.Statement.{statement}
 use Rattle.text.proofs.feed.feed.Tie as tie
 
@@ -128,7 +128,7 @@ returns-2 : tie.Need-returns-2 invariant-loop decreases-loop
 returns-2 c =
     let at = c.before in
     going_ends _ _ _ (between at.loop.held at.loop.stage at.loop.table at.loop.store) _ _ _ at.loop.invariant.0
-    (feed_end _ _ _ _ c.loop-test.false)
+    (feed-end _ _ _ _ c.loop-test.false)
 
 pub feed-spec : {M : Type 1} → statement M
 feed-spec =
