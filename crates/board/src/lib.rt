@@ -2,6 +2,8 @@
 // calls. No struct goes by value in or out of an exported function, so that the calling convention is the same on every processor. A single number
 // behind a pointer is written only where the call gives it.
 
+#![tactic(auto)]
+
 pub mod event;
 pub mod frame;
 pub mod frame_time;

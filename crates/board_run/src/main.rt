@@ -1,6 +1,8 @@
 // Runs of events and of frames over `call_runs`, by p since [2,3] q, with heartbeats and refused calls between. Each run writes the codes of its answers, in
 // hexadecimal (a verdict is a bit for each listed row, a moved clock bit 31, a refusal its number and its row), then the record and the store that it left.
 
+#![tactic(auto)]
+
 use call_runs::run::{run_events, run_frames};
 use libc::STDOUT_FILENO;
 use monitor::start::start;

@@ -1,4 +1,6 @@
 // Many calls over lent rows.
 
+#![tactic(auto)]
+
 mod call;
 pub mod run;

@@ -1,3 +1,5 @@
 // The answers of calls as numbers, as C gets them.
 
+#![tactic(auto)]
+
 pub mod code;

@@ -1,6 +1,6 @@
 // What a row without a stretch says: a column of the table of kinds.
 
-#[derive(Drop)]
+#[derive(Clone, Copy)]
 pub enum Plain {
     // True.
     Truth,

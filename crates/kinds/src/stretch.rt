@@ -1,7 +1,7 @@
 // How the spans of a row's stretch come and go (document 01, "Spans, store and record"), by its kind.
 
 // What is asked at an event for the spans to be kept: nothing, or that the row which x or y names is true.
-#[derive(Drop)]
+#[derive(Clone, Copy)]
 pub enum Keep {
     Unasked,
     WhileX,
@@ -9,14 +9,14 @@ pub enum Keep {
 }
 
 // The row whose truth feeds the stretch: the one that x or y names.
-#[derive(Drop)]
+#[derive(Clone, Copy)]
 pub enum Feed {
     FromX,
     FromY,
 }
 
 // The columns of a kind with a stretch.
-#[derive(Drop)]
+#[derive(Clone, Copy)]
 pub struct Stretch {
     pub keep: Keep,
     pub feed: Feed,

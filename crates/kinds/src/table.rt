@@ -9,7 +9,7 @@ use crate::stretch::{Feed, Keep, Stretch};
 use times::mask::HEARTBEAT_BIT;
 
 // What a number of a row is used as.
-#[derive(Drop)]
+#[derive(Clone, Copy)]
 pub enum Use {
     // Must be 0.
     Unused,
@@ -22,7 +22,7 @@ pub enum Use {
 }
 
 // What x, y, a and b are used as; whether a row of the kind owns a stretch, and which; what a row without one says.
-#[derive(Drop)]
+#[derive(Clone, Copy)]
 pub struct KindLine(
     pub Use,
     pub Use,

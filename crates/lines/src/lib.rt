@@ -1,5 +1,7 @@
 // Text at a place: digits, and every line format read and judged by form and sum alone. Owns nothing: the text is lent.
 
+#![tactic(auto)]
+
 pub mod digits;
 pub mod frame;
 mod line;

@@ -28,7 +28,7 @@ use times::time::wide;
 
 // A call, and what the record tells of those before it: the clock, by which no row is judged; whether an event was seen, and its time. Each row's truth at
 // that event is lent beside this.
-#[derive(Drop)]
+#[derive(Clone, Copy)]
 pub(crate) struct Arrival {
     pub(crate) time: u64,
     pub(crate) mask: u32,

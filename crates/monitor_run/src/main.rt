@@ -2,6 +2,8 @@
 // frame reaches, lists that change between calls, the reader. After each call stand its answer, the record's clock, its last event's time and row count,
 // and the store. p is bit 0 and q is bit 1 of the mask. The list has the table's last row alone where nothing else is said.
 
+#![tactic(auto)]
+
 use libc::STDOUT_FILENO;
 use lines::frame::FrameFound;
 use lines::reader::frame_at;

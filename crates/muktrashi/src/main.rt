@@ -1,6 +1,8 @@
 // The text program: standard input to standard output, nothing else (document 01, "The program's text"). It reads what is there, judges every
 // whole line, writes, and only then waits again. Its memory is fixed.
 
+#![tactic(auto)]
+
 ghost use Rattle.std.specs.Prelude.{◌≤◌, length};
 ghost use Rattle.text.specs.Replies.{longest_reply, Wrote};
 ghost use Rattle.text.specs.Feed.{text_end};

@@ -1,3 +1,5 @@
 // The one list of refusals, below every crate that refuses.
 
+#![tactic(auto)]
+
 pub mod refusal;

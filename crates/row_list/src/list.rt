@@ -7,7 +7,7 @@ ghost use Rattle.row_list.specs.RowList.{list_limit, list_passes};
 pub const LIST_LIMIT: usize = 16;
 
 // A list by value: the first numbers, as many as it counts.
-#[derive(Drop)]
+#[derive(Clone, Copy)]
 pub struct RowList {
     pub rows: [u32; LIST_LIMIT],
     pub count: usize,

@@ -1,5 +1,7 @@
 // The rule table.
 
+#![tactic(auto)]
+
 pub mod limits;
 pub mod numbers;
 pub mod plain;

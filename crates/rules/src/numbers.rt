@@ -5,7 +5,7 @@ ghost use Rattle.rules.specs.Rows.{numbers_at};
 
 use crate::limits::ROW_NUMBERS;
 
-#[derive(Drop)]
+#[derive(Clone, Copy)]
 pub struct Numbers {
     pub kind: u32,
     pub x: u32,

@@ -1,3 +1,5 @@
 // Whether the spans of one row are sound in their words.
 
+#![tactic(auto)]
+
 pub mod stretch;

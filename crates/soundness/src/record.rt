@@ -7,7 +7,7 @@ use rules::limits::ROW_LIMIT;
 
 // As C has it: a truth is a byte, 1 for true and 0 for false. C memory may hold any byte there; one over 1 is not sound.
 #[repr(C)]
-#[derive(Drop)]
+#[derive(Clone, Copy)]
 pub struct Record {
     // Whether an event was seen, a heartbeat not counted.
     pub seen: u8,

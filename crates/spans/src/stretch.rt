@@ -13,14 +13,14 @@ use times::time::past_by;
 pub const MARK: u64 = 18_446_744_073_709_551_615;
 
 // What stands beside a stretch's words: the place of the first span, and how many spans it holds.
-#[derive(Drop)]
+#[derive(Clone, Copy)]
 pub struct Held {
     pub first: usize,
     pub count: usize,
 }
 
 // What an update answers: what is held now, and whether the time lies in the first span.
-#[derive(Drop)]
+#[derive(Clone, Copy)]
 pub struct Updated {
     pub held: Held,
     pub covered: bool,

@@ -13,13 +13,13 @@ use soundness::record::{Record, nothing_seen};
 pub const LINE_LIMIT: usize = LINE_BYTES;
 
 // The first bytes of an unfinished line. Of a line that is longer than any good one no more is held.
-#[derive(Drop)]
+#[derive(Clone, Copy)]
 pub struct Held {
     pub bytes: [u8; LINE_LIMIT],
     pub count: usize,
 }
 
-#[derive(Drop)]
+#[derive(Clone, Copy)]
 pub enum Part {
     // Rule lines, up to the list line or the empty line.
     Rules,
@@ -31,7 +31,7 @@ pub enum Part {
     Over,
 }
 
-#[derive(Drop)]
+#[derive(Clone, Copy)]
 pub struct Stage {
     pub part: Part,
     // Rule lines read: so many rows stand in the table that is lent.

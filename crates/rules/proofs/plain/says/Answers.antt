@@ -1,0 +1,6 @@
+-- `rules::plain::says` meets its contract: the column of the kind's line. Assumes nothing.
+use borrow.Author.Rules.{rules}
+use Rattle.rules.proofs.plain.says.Goals as goal
+
+pub returns : goal.returns
+returns c = rw c.Line-of.ensures

@@ -1,0 +1,6 @@
+-- `rules::stretch::columns` meets its contract: the last column of the kind's line. Assumes nothing.
+use borrow.Author.Rules.{rules}
+use Rattle.rules.proofs.stretch.columns.Goals as goal
+
+pub returns : goal.returns
+returns c = rw c.Line-of.ensures
