@@ -3,4 +3,4 @@ use borrow.Author.Rules.{rules}
 use Rattle.rules.proofs.stretch.is_owned.Goals as goal
 
 pub returns : goal.returns
-returns c = rw c.Line-of.ensures
+returns c = rw c.line_of-line.ensures
