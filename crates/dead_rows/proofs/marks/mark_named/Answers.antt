@@ -6,4 +6,4 @@ use Rattle.dead_rows.proofs.marks.mark_named.Goals as goal
 pub returns : goal.returns
 unfolding marked_named
 returns c =
-    rw (c.mark_where-2.ensures, c.mark_where.ensures, c.Line-of.ensures)
+    rw (c.mark_where-2.ensures, c.mark_where.ensures, c.line_of-line.ensures)
