@@ -15,7 +15,7 @@ loop-row-init c = (omega arith, c.requires, sym (none-past _ _ _ _))
 pub loop-row-preserved : goal.loop-row-preserved
 loop-row-preserved c =
     let l = c.loop-row in
-    (omega arith, omega arith, past_more _ _ _ _ l.truth_bits-1 l.number_bits-1 l.invariant.0 l.invariant.2)
+    (omega arith, omega arith, past_more _ _ _ _ l.truth_bits l.number_bits l.invariant.0 l.invariant.2)
 
 pub returns-then-truth_bits-eq0 : goal.returns-then-truth_bits-eq0
 returns-then-truth_bits-eq0 c =
