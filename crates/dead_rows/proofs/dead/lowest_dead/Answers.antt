@@ -18,8 +18,7 @@ at-next table list rows row marks dead more swept =
     subst (λ (at : ℕ). Swept table list rows at marks dead) next swept
 
 pub loop-row-init : goal.loop-row-init
-loop-row-init c =
-    (
+loop-row-init c = (
   c.within_limit-count.ensures,
   omega arith,
   rw c.mark_listed.ensures (swept_start _ _ _ (omega arith)),

@@ -69,8 +69,7 @@ pub fields-init : goal.fields-init
 fields-init c = (omega arith, omega arith, λ f low high. absurd (omega arith))
 
 pub fields-preserved : goal.fields-preserved
-fields-preserved c =
-    (
+fields-preserved c = (
   omega arith,
   omega arith,
   λ f low high.

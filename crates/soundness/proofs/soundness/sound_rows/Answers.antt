@@ -45,7 +45,7 @@ overflow_add-end c =
     omega (
       arith,
       fits _ _ c.loop-row.row c.loop-row.from c.requires.table_ready (omega arith)
-      c.numbers_at-numbers.ensures c.spans-spans.ensures c.loop-row.invariant.1,
+          c.numbers_at-numbers.ensures c.spans-spans.ensures c.loop-row.invariant.1,
     )
 
 pub slice_bounds-sound_row-end : goal.slice_bounds-sound_row-end
@@ -53,7 +53,7 @@ slice_bounds-sound_row-end c =
     omega (
       arith,
       fits _ _ c.loop-row.row c.loop-row.from c.requires.table_ready (omega arith)
-      c.numbers_at-numbers.ensures c.spans-spans.ensures c.loop-row.invariant.1,
+          c.numbers_at-numbers.ensures c.spans-spans.ensures c.loop-row.invariant.1,
     )
 
 pub offset_bounds-store-from : goal.offset_bounds-store-from
@@ -61,7 +61,7 @@ offset_bounds-store-from c =
     omega (
       arith,
       fits _ _ c.loop-row.row c.loop-row.from c.requires.table_ready (omega arith)
-      c.numbers_at-numbers.ensures c.spans-spans.ensures c.loop-row.invariant.1,
+          c.numbers_at-numbers.ensures c.spans-spans.ensures c.loop-row.invariant.1,
     )
 
 pub bounds-truths-row : goal.bounds-truths-row
@@ -88,17 +88,16 @@ sound_row-requires c =
     )
 
 pub loop-row-preserved : goal.loop-row-preserved
-loop-row-preserved c =
-    (
+loop-row-preserved c = (
   omega arith,
   offset-next _ _ c.numbers_at-numbers.ensures c.loop-row.invariant.1 (rw c.spans-spans.ensures),
   every_more _ _ c.loop-row.invariant.2
-  (sym
-  (row_told c.args.table.now c.args.store.now
-  (record_of c.args.seen c.args.clock c.args.last c.args.rows c.args.truths.now c.args.counts.now c.args.firsts.now)
-  c.loop-row.row
-  c.numbers_at-numbers.ensures c.loop-row.invariant.1 (rw c.spans-spans.ensures) c.sound_row.ensures)
-  ∙ c.if-sound_row.true),
+      (sym
+      (row_told c.args.table.now c.args.store.now
+      (record_of c.args.seen c.args.clock c.args.last c.args.rows c.args.truths.now c.args.counts.now c.args.firsts.now)
+      c.loop-row.row
+      c.numbers_at-numbers.ensures c.loop-row.invariant.1 (rw c.spans-spans.ensures) c.sound_row.ensures)
+      ∙ c.if-sound_row.true),
 )
 
 pub returns-else-sound_row : goal.returns-else-sound_row
