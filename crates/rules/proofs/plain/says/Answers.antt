@@ -1,5 +1,4 @@
 -- `rules::plain::says` meets its contract: the column of the kind's line. Assumes nothing.
-use borrow.Author.Rules.{rules}
 use Rattle.rules.proofs.plain.says.Goals as goal
 
 pub returns : goal.returns

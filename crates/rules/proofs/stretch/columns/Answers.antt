@@ -1,5 +1,4 @@
 -- `rules::stretch::columns` meets its contract: the last column of the kind's line. Assumes nothing.
-use borrow.Author.Rules.{rules}
 use Rattle.rules.proofs.stretch.columns.Goals as goal
 
 pub returns : goal.returns

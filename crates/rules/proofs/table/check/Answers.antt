@@ -1,4 +1,4 @@
-use Prim.Native.Nat.{ℕ, ◌-◌, ◌≤◌, ◌<◌}
+use Prim.Native.Nat.{ℕ, ◌≤◌, ◌<◌}
 use mathlib.Core.Bool.{Bool, true}
 use mathlib.Core.List.{List}
 use mathlib.Core.Logic.{⊎_elim}
@@ -10,26 +10,10 @@ use Rattle.meaning.proofs.Tells.{tells_passed}
 use Rattle.kinds.specs.Kinds.{known}
 use Rattle.rules.specs.Limits.{row_numbers}
 use Rattle.rules.specs.Rows.{numbers_at}
-use Rattle.refusals.specs.Refusals.{Refused}
 use Rattle.rules.specs.Stretches.{width, offset}
-use Rattle.rules.specs.Table.{length_passes, row_passes, limits_pass, fault_of, first_fault, refused_by, check_of}
+use Rattle.rules.specs.Table.{length_passes, row_passes, limits_pass, first_fault}
 use Rattle.rules.specs.declared.numbers.Numbers.{Numbers}
-use Rattle.rules.proofs.TableLaws.{
-  field_fits,
-  field_told,
-  row-passes,
-  row_unknown,
-  row_unfit,
-  fault_row,
-  fault_limits,
-  fault_none,
-  whole_rows_told,
-  SoFar,
-  refused-at,
-  passed-at,
-  next-passes,
-  refused_length,
-}
+use Rattle.rules.proofs.TableLaws.{field_fits, field_told, row-passes, row_unknown, row_unfit, fault_row, fault_limits, fault_none, whole_rows_told, refused-at, passed-at, next-passes, refused_length}
 use Rattle.rules.proofs.PassedLaws.{range_told, rows-good, width-most, offset-most}
 use Rattle.rules.proofs.table.check.Goals as goal
 
