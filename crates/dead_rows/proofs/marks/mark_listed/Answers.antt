@@ -1,9 +1,5 @@
 use native.Mathlib.Omega.{arith}
-use mathlib.Core.Path.{◌≡◌, refl, sym, ◌∙◌}
-use Prim.Native.Nat.{◌-◌, ◌≤◌}
-use lib.ListN.{length, drop}
-use borrow.Author.Rules.{rules}
-use Rattle.dead_rows.specs.Marks.{marked_listed}
+use mathlib.Core.Path.{refl, sym, ◌∙◌}
 use Rattle.dead_rows.proofs.MarksLaws.{listed_next, listed-none}
 use Rattle.dead_rows.proofs.marks.mark_listed.Goals as goal
 

@@ -1,12 +1,9 @@
 -- `dead_rows::marks::mark_listed` meets its contract. The loop's invariant: marking the rest of the list is left to do. The measure is what is left of the
 -- list. Assumes nothing.
-use native.Mathlib.Omega.{arith}
-use mathlib.Core.Path.{◌≡◌, refl, sym, ◌∙◌}
+use mathlib.Core.Path.{◌≡◌}
 use Prim.Native.Nat.{◌-◌, ◌≤◌}
 use lib.ListN.{length, drop}
-use borrow.Author.Rules.{rules}
 use Rattle.dead_rows.specs.Marks.{marked_listed}
-use Rattle.dead_rows.proofs.MarksLaws.{listed_next, listed-none}
 use Rattle.dead_rows.proofs.marks.mark_listed.Given as goal
 
 abbrev pub invariant-loop-place : goal.invariant-loop-place

@@ -1,5 +1,4 @@
 -- `dead_rows::marks::mark_named` meets its contract: x, then y. Assumes nothing.
-use borrow.Author.Rules.{rules}
 use Rattle.dead_rows.specs.Marks.{marked_named}
 use Rattle.dead_rows.proofs.marks.mark_named.Goals as goal
 
