@@ -7,7 +7,8 @@ use Rattle.dead_rows.specs.Marks.{marked_listed}
 use Rattle.dead_rows.proofs.marks.mark_listed.Given as goal
 
 abbrev pub invariant-loop-place : goal.invariant-loop-place
-invariant-loop-place l = (marked_listed l.rows l.list l.initial.marks ≡ marked_listed l.rows (drop l.place l.list) l.marks) × (l.place ≤ length l.list)
+invariant-loop-place l =
+    (marked_listed l.rows l.list l.initial.marks ≡ marked_listed l.rows (drop l.place l.list) l.marks) × (l.place ≤ length l.list)
 
 abbrev pub decreases-loop-place : goal.decreases-loop-place
 decreases-loop-place l = length l.list - l.place

@@ -13,7 +13,21 @@ use Rattle.rules.specs.Rows.{numbers_at}
 use Rattle.rules.specs.Stretches.{width, offset}
 use Rattle.rules.specs.Table.{length_passes, row_passes, limits_pass, first_fault}
 use Rattle.rules.specs.declared.numbers.Numbers.{Numbers}
-use Rattle.rules.proofs.TableLaws.{field_fits, field_told, row-passes, row_unknown, row_unfit, fault_row, fault_limits, fault_none, whole_rows_told, refused-at, passed-at, next-passes, refused_length}
+use Rattle.rules.proofs.TableLaws.{
+  field_fits,
+  field_told,
+  row-passes,
+  row_unknown,
+  row_unfit,
+  fault_row,
+  fault_limits,
+  fault_none,
+  whole_rows_told,
+  refused-at,
+  passed-at,
+  next-passes,
+  refused_length,
+}
 use Rattle.rules.proofs.PassedLaws.{range_told, rows-good, width-most, offset-most}
 use Rattle.rules.proofs.table.check.Goals as goal
 

@@ -1,7 +1,6 @@
 -- `soundness::soundness::sound_entry` meets its contract, test by test. Assumes nothing.
 use Prim.Native.Nat.{◌≤◌, ◌<◌}
 use native.Mathlib.Omega.{arith}
-use borrow.Author.Rules.{rules}
 use borrow.Author.Tests.{le-leb, lt-leb, eq-eqb, ne_eqb}
 use Rattle.soundness.proofs.soundness.sound_entry.Goals as goal
 

@@ -1,11 +1,7 @@
-use mathlib.Core.Bool.{◌&&◌}
 use mathlib.Core.Path.{◌≡◌, sym}
-use Prim.Native.Nat.{◌-◌, ◌≤◌}
 use native.Mathlib.Omega.{arith}
 use borrow.Author.Tests.{eq-eqb, ne_eqb}
-use lib.Dec.{eqb}
 use Rattle.rules.specs.Limits.{row_limit}
-use Rattle.soundness.specs.Soundness.{every, zero_past?}
 use Rattle.soundness.proofs.SoundnessLaws.{none-past, past_more}
 use Rattle.soundness.proofs.soundness.zero_past.Goals as goal
 
