@@ -15,6 +15,7 @@ use Rattle.lines.specs.Digits.{byte_at, overwritten}
 use Rattle.lines.specs.Line.{line_feed}
 use Rattle.text.specs.Replies.{longest_reply, Wrote}
 use Rattle.text.specs.declared.state.Held.{Held}
+use Rattle.text.specs.declared.state.Stage.{Stage}
 use Rattle.text.specs.declared.state.State.{State}
 use Rattle.text.specs.declared.turn.Told.{Told}
 use Rattle.text.specs.Held.{held_line, holding, emptied}
@@ -127,6 +128,10 @@ pub step_rows : (m : Memory) (room : ℕ) (piece : List ℕ)
 unfolding piece_fed
 step_rows m room piece most =
     by_test (ready? m) (λ ready. rw ready (feed-rows m room piece most)) (λ not. rw not most)
+
+-- What there is between two bytes.
+abbrev pub between : Held → Stage → List ℕ → List ℕ → Memory
+between held stage table store = record { held = held; desk = desk stage table store }
 
 -- What holds from turn to turn of the loop.
 pub record Going (first : Memory) (piece before : List ℕ) (m : Memory) (out : List ℕ) (used wrote : ℕ) : Type 0 where
