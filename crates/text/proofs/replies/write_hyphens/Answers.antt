@@ -1,3 +1,4 @@
+-- `text::replies::write_hyphens` meets its contract: one hyphen more at each turn of the loop. Assumes nothing.
 use native.Mathlib.Omega.{arith}
 use lib.ListN.{length-set}
 use Rattle.text.proofs.WroteLaws.{wrote-hyphen}

@@ -1,0 +1,13 @@
+-- `text::turn::after_list` meets its contract: the empty line, or a refusal. Assumes nothing.
+use Rattle.text.specs.Turn.{after_list}
+use Rattle.text.proofs.TurnLaws.{turned_as}
+use Rattle.text.proofs.turn.after_list.Goals as goal
+
+pub returns-then-is_empty : goal.returns-then-is_empty
+unfolding after_list
+returns-then-is_empty c =
+    turned_as _ _ _ _ _ _ _ _ _ _ _ c.empty_line.ensures (rw (← c.is_empty.ensures, c.if-is_empty.true))
+
+pub returns : goal.returns
+unfolding after_list
+returns c = turned_as _ _ _ _ _ _ _ _ _ _ _ (c.refuse.ensures _ _) (rw (← c.is_empty.ensures, c.if-is_empty.false))
