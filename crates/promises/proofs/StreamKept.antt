@@ -1,4 +1,5 @@
 -- The induction over a stream behind the verdicts and the spans: the invariant holds after any list of calls, of the true events kept and the clock.
+use mathlib.Core.Bool.{cond}
 use mathlib.Core.List.{List, [], ◌∷◌}
 use mathlib.Core.Path.{refl}
 use Prim.Native.Nat.{ℕ}
@@ -6,7 +7,7 @@ use Rattle.meaning.specs.History.{Event, last_time}
 use Rattle.meaning.specs.Heartbeat.{true_events}
 use Rattle.soundness.specs.Setup.{Setup}
 use Rattle.monitor.specs.Step.{Call}
-use Rattle.promises.specs.Stream.{State, Starts, started, after, kept, state, history, clock}
+use Rattle.promises.specs.Stream.{State, Starts, next, started, after, keeps?, event_of, kept, state, history, clock}
 use Rattle.promises.specs.Conditions.{ListServes}
 use Rattle.promises.proofs.Invariant.{Invariant}
 use Rattle.promises.proofs.StartRight.{start_ready, start_right}
@@ -19,7 +20,8 @@ calls-kept : (setup : Setup)
     → Invariant setup.table (true_events (kept all calls)) (last_time (kept all calls)) (after setup s calls)
 unfolding kept after
 calls-kept setup listed all s [] inv = inv
-calls-kept setup listed all s (c ∷ calls) inv = calls-kept setup listed _ _ calls (next-kept setup listed all s inv c _ refl)
+calls-kept setup listed all s (c ∷ calls) inv =
+    calls-kept setup listed (cond (keeps? (last_time all) c) (event_of (last_time all) c ∷ all) all) (next setup s c) calls (next-kept setup listed all s inv c _ refl)
 
 pub stream-kept : (setup : Setup) (store : List ℕ)
     → Starts setup store

@@ -1,5 +1,5 @@
 -- Streams with more calls: what they leave, the calls that they keep, and the true events among these.
-use mathlib.Core.Bool.{Bool, true, false, ◌&&◌}
+use mathlib.Core.Bool.{Bool, true, false, cond, ◌&&◌}
 use mathlib.Core.List.{List, [], ◌∷◌, ◌++◌}
 use mathlib.Core.Path.{◌≡◌, refl, ap, ◌∙◌}
 use Prim.Native.Nat.{ℕ, ◌≤◌, ◌<◌}
@@ -32,7 +32,7 @@ after_append setup s (c ∷ calls) more = after_append setup (next setup s c) ca
 pub kept_append : (before : List Event) (calls more : List Call) → kept before (calls ++ more) ≡ kept (kept before calls) more
 unfolding kept
 kept_append before [] more = refl
-kept_append before (c ∷ calls) more = kept_append _ calls more
+kept_append before (c ∷ calls) more = kept_append (cond (keeps? (last_time before) c) (event_of (last_time before) c ∷ before) before) calls more
 
 keeps_told : (last : ℕ) (c : Call) → Tells (keeps? last c) (Keeps last c)
 keeps_told last c =

@@ -12,7 +12,7 @@ use Rattle.lines.specs.Frame.{read_frame}
 use Rattle.soundness.specs.Setup.{Setup}
 use Rattle.monitor.specs.Step as step
 use Rattle.monitor.specs.Step.{Call, frame_of, Reply}
-use Rattle.promises.specs.Stream.{State, Starts, started, after}
+use Rattle.promises.specs.Stream.{State, Starts, next, started, after}
 use Rattle.promises.specs.TextRead.{good_lines, counter_in, frames_of, counters_of}
 use Rattle.promises.specs.LineTimes.{replies, record_times, line_times, accepted_times, LinesTimed}
 use Rattle.promises.proofs.LineTimes.{line_times_are_true}
@@ -68,12 +68,12 @@ accepted_shown (good_line given ∷ lines) (step.refusal fault ∷ answered) (ti
 length_replies : (setup : Setup) (s : State) (calls : List Call) → length (replies setup s calls) ≡ length calls
 unfolding replies
 length_replies setup s [] = refl
-length_replies setup s (c ∷ calls) = ap suc (length_replies setup _ calls)
+length_replies setup s (c ∷ calls) = ap suc (length_replies setup (next setup s c) calls)
 
 length_times : (setup : Setup) (s : State) (calls : List Call) → length (record_times setup s calls) ≡ length calls
 unfolding record_times
 length_times setup s [] = refl
-length_times setup s (c ∷ calls) = ap suc (length_times setup _ calls)
+length_times setup s (c ∷ calls) = ap suc (length_times setup (next setup s c) calls)
 
 same_length : (lines : List (List ℕ)) (times : List ℕ) → counters_of lines ≡ map counter_of times → length (frames_of lines) ≡ length times
 same_length lines times same =
