@@ -57,7 +57,7 @@ start:
 
 declare void @llvm.memmove.p0.p0.i64(ptr writeonly captures(none), ptr readonly captures(none), i64, i1 immarg) #1
 
-attributes #0 = { nounwind "probe-stack"="inline-asm" "target-cpu"="x86-64" }
+attributes #0 = { nounwind "probe-stack"="inline-asm" "target-cpu"="x86-64-v2" }
 attributes #1 = { nocallback nofree nounwind willreturn memory(argmem: readwrite) }
 
 !llvm.ident = !{!0}
@@ -66,45 +66,36 @@ attributes #1 = { nocallback nofree nounwind willreturn memory(argmem: readwrite
 !1 = !{i8 0, i8 2}
 !2 = !{}
 END
-# The same as a program's, which calls the system.
-sed -e '/^define noundef i32 @muk_small/s/.*/define i32 @main() #0 {/; s/ptr %a0, i64 %a1)/ptr %r9, i64 0)/; /@muk_version/,/^}/d' \
-    -e '/^declare/i declare noundef i64 @read(i32 noundef, ptr noundef, i64 noundef) #1' "$work/good.bc" >"$work/program.bc"
-
-# fresh MACHINE: a repository with nothing built, and a kit for MACHINE that proves everything.
+# fresh [MACHINE]: a repository with nothing built, and a kit that proves everything; the machine is x86_64 where no other is named.
 fresh() {
     rm -rf "$work/repo" "$work/kit"
-    bin=$work/kit/on/$1/toolchain/bin
-    mkdir -p "$work/repo/crates/board" "$work/repo/crates/muktrashi" "$work/repo/tools" "$work/kit/bin" "$bin"
+    bin=$work/kit/toolchain/bin
+    mkdir -p "$work/repo/crates/board_c" "$work/repo/crates/muktrashi" "$work/repo/tools" "$work/kit/bin" "$bin"
     cp tools/build tools/portable tools/board_lines.py "$work/repo/tools/"
     : >"$work/repo/crates.txt"
-    printf 'judged\n' | tee "$work/repo/crates/muktrashi/stdin" >"$work/repo/crates/muktrashi/stdout"
     : >"$work/kit/KIT-ID"
+    : >"$work/kit/bin/rtlib.py"
     cp "$work/good.bc" "$work/kit/module.bc"
-    cp "$work/program.bc" "$work/kit/program.bc"
-    script "$work/kit/bin/uname" "echo $1"
-    # It hands its clang a module, with no environment, as the kit does.
-    script "$work/kit/bin/rt" 'echo "$*" >>proved' 'mkdir -p target/staticlib target/bin target/stamp' \
-        'case $* in' \
-        "'staticlib board') module=$work/kit/module.bc made=target/staticlib/libboard.a ;;" \
-        "'check muktrashi') module=$work/kit/program.bc made=target/bin/muktrashi" \
-        '    [ ! -e target/stamp/muktrashi ] || exit 0 ;;' \
-        'esac' \
-        "env -i \"\$RATTLE_HOME/on/$1/toolchain/bin/clang\" --target=x86_64 -c -x ir \"\$module\" -o \"\$made\" && : >target/stamp/muktrashi"
-    # It knows the targets of a file, writes a module as text, one of its own processor unless it is told another, and compiles it to a program that
-    # writes what it reads.
+    script "$work/kit/bin/uname" "echo ${1-x86_64}"
+    # Of a library it hands its clang a module, with no environment, as the kit does; the program that it makes writes what it reads. The kit is where it
+    # stands itself.
+    script "$work/kit/bin/rt" 'kit=$(dirname "$(dirname "$(readlink -f "$0")")")' 'name=${PWD##*/}' \
+        'echo "$name $*" >>../../proved' 'mkdir -p out' \
+        'case $1 in' \
+        "lib) env -i \"\$kit/toolchain/bin/clang\" --target=\${3-x86_64} -c -x ir \"\$kit/module.bc\" -o \"out/lib\$name.a\" ;;" \
+        'run) printf "#!/bin/sh\nexec cat\n" >"out/$name" && chmod +x "out/$name" && exec "out/$name" ;;' \
+        'esac'
+    # It knows the targets of a file, writes a module as text, and compiles it to what names its target.
     printf '    %s - a processor\n' aarch64 thumb wasm32 x86-64 >"$work/kit/targets"
     script "$bin/clang" "[ \"\$1\" != --print-targets ] || exec cat $work/kit/targets" \
         "echo \"\$*\" >>$work/kit/compiled" \
         'for word; do case $last in -o) made=$word ;; ir) module=$word ;; esac; last=$word; done' \
         'case $* in' \
-        '*--target=x86_64-unknown-linux-gnu*-emit-llvm*) exec /bin/cp "$module" "$made" ;;' \
-        "*-emit-llvm*) exec /bin/sed s/x86_64-unknown-linux-gnu/$1-unknown-linux-gnu/ \"\$module\" >\"\$made\" ;;" \
+        '*-emit-llvm*) exec /bin/cp "$module" "$made" ;;' \
         'esac' \
-        'printf "#!/bin/sh\nexec cat\n" >"$made" && /bin/chmod +x "$made"'
+        'for word; do case $word in --target=*) echo "$word" >"$made" ;; esac; done'
     script "$bin/llvm-ar" 'cp "$3" "$2"'
     script "$bin/ld.lld" '[ "$1" != --version ] || exit 0' 'for word; do case $last in -o) made=$word ;; esac; last=$word; done' 'echo "$*" >"$made"'
-    script "$bin/qemu-x86_64" "echo emulated >>$work/kit/emulated" 'shift 3' 'exec "$@"'
-    script "$work/kit/bin/cc" 'cp "$1" "$3"'
 }
 
 # builds TARGET: in silence, and nothing is left but what was asked for.
@@ -135,29 +126,33 @@ tidy() {
 mkdir "$work/tmp" "$work/bare"
 export TMPDIR=$work/tmp
 # What tools/build itself needs, and no compiler, linker or kit.
-for tool in bash cat chmod cmp cp dirname env find flock grep ln mkdir mktemp mv python3 readlink rm sed sh sleep touch; do
+for tool in bash cat chmod cp dirname env find flock grep ln mkdir mktemp mv python3 readlink rm sed sh sleep touch; do
     ln -s "$(type -P "$tool")" "$work/bare/"
 done
 
 # Every library, of one proof; then nothing, until a source changes.
-fresh x86_64
+fresh
 builds all
 for target in x86_64 aarch64 cortex-m0 cortex-m3 cortex-m4 cortex-m4f wasm32; do
     [ -s "$work/repo/target/board/$target/libmuktrashi.a" ] || fail "there is no library for $target"
     builds "$target"
 done
-[ "$(cat "$work/repo/proved")" = 'staticlib board' ] || fail "one proof is enough for all libraries, and was '$(cat "$work/repo/proved")'"
+proofs=$'board_c lib\nboard_c lib --target aarch64-unknown-linux-gnu'
+[ "$(cat "$work/repo/proved")" = "$proofs" ] || fail "one proof is enough for the libraries that are no Linux's, and was '$(cat "$work/repo/proved")'"
+for target in x86_64 aarch64-unknown-linux-gnu; do
+    [ "$(cat "$work/repo/target/board/${target%%-*}/libmuktrashi.a")" = "--target=$target" ] || fail "the library for $target is not the kit's own"
+done
 exports=$(cat "$work/repo/target/board/wasm32/muktrashi.wasm")
 for export in muk_small muk_version; do [[ $exports == *"--export=$export "* ]] || fail "muktrashi.wasm does not export $export: $exports"; done
 grep -q -- '--target=thumbv7em-none-eabihf .*-mfloat-abi=hard' "$work/kit/compiled" || fail "the library for cortex-m4f has no hard float"
 grep -- '--target=thumbv7' "$work/kit/compiled" | grep -qv -- -mno-unaligned-access && fail "a library for a Cortex-M may access what is not aligned"
 cmp -s "$work/good.bc" "$work/repo/target/board/module.bc" || fail "target/board/module.bc is not the module that clang was handed"
-touch "$work/repo/crates/board/lib.rt"
+touch "$work/repo/crates/board_c/lib.rt"
 builds cortex-m3
-[ "$(wc -l <"$work/repo/proved")" -eq 2 ] || fail "a source has changed, and the library is not built again"
+[ "$(wc -l <"$work/repo/proved")" -eq 3 ] || fail "a source has changed, and the library is not built again"
 
 # What cannot be built.
-fresh x86_64
+fresh
 help=$("$work/repo/tools/build" --help) || fail "--help ended with status $?"
 for target in program x86_64 aarch64 cortex-m0 cortex-m3 cortex-m4 cortex-m4f wasm32 all; do
     grep -q "^  $target " <<<"$help" || fail "--help does not tell of $target"
@@ -169,38 +164,43 @@ refuses 2 "build: there is no option '--all'" --all
 refuses 2 "build: one target at a time" cortex-m0 cortex-m3
 rm "$work/kit/bin/rt"
 path=$work/kit/bin:$work/bare refuses 1 "build: the command 'rt' of the Rattle kit is not on the PATH; install the kit that .ci/kit names" cortex-m0
-fresh x86_64
-rm "$work/kit/on/x86_64/toolchain/bin/clang"
-refuses 1 "build: the kit at $work/kit has no clang and llvm-ar for this machine, x86_64" cortex-m0
-fresh x86_64
+fresh
+rm "$work/kit/toolchain/bin/clang"
+refuses 1 "build: the kit at $work/kit has no clang and llvm-ar; install the kit that .ci/kit names" cortex-m0
+fresh riscv64
+script "$bin/clang" 'exit 126'
+refuses 1 "build: the kit at $work/kit does not run on this machine, riscv64; it is for x86-64 Linux" aarch64
+refuses 1 "build: the kit at $work/kit does not run on this machine, riscv64; it is for x86-64 Linux" program
+fresh
 script "$work/kit/bin/rt" 'echo no proof of that; exit 1'
-refuses 1 "build: the crate board is not proved ('rt staticlib board' ended with status 1); target/build.log has what it said" cortex-m0
-refuses 1 "build: the crate board is not proved" x86_64
-refuses 1 "build: the crate muktrashi is not proved ('rt check muktrashi' ended with status 1); target/build.log has what it said" program
+refuses 1 "build: the crate board_c is not proved ('rt lib' in crates/board_c ended with status 1); target/build.log has what it said" cortex-m0
+refuses 1 "build: the crate board_c is not proved" x86_64
+refuses 1 "build: the crate board_c is not proved ('rt lib --target aarch64-unknown-linux-gnu' in crates/board_c ended with status 1)" aarch64
+refuses 1 "build: the crate muktrashi is not proved ('rt run' in crates/muktrashi ended with status 1); target/build.log has what it said" program
 [ "$(cat "$work/repo/target/build.log")" = 'no proof of that' ] || fail "target/build.log has '$(cat "$work/repo/target/build.log")'"
 script "$work/kit/bin/rt" 'exit 2'
-refuses 1 "build: the kit failed ('rt staticlib board' ended with status 2)" cortex-m0
+refuses 1 "build: the kit failed ('rt lib' in crates/board_c ended with status 2)" cortex-m0
 script "$work/kit/bin/rt" 'exit 0'
 refuses 1 "build: the kit gives no archive" cortex-m0
 refuses 1 "build: the kit gives no program" program
-script "$work/kit/bin/rt" 'mkdir -p target/staticlib' ': >target/staticlib/libboard.a'
-refuses 1 "build: the kit gives no module of board" cortex-m0
-fresh x86_64
+script "$work/kit/bin/rt" 'mkdir -p out' ': >out/libboard_c.a'
+refuses 1 "build: the kit gives no module of board_c" cortex-m0
+fresh
 builds cortex-m0
-script "$work/kit/bin/rt" ': >target/staticlib/libboard.a'
-touch "$work/repo/crates/board/lib.rt"
-refuses 1 "build: the kit gives no module of board" cortex-m3
+script "$work/kit/bin/rt" ': >out/libboard_c.a'
+touch "$work/repo/crates/board_c/lib.rt"
+refuses 1 "build: the kit gives no module of board_c" cortex-m3
 script "$work/kit/bin/rt" 'exit 0'
 refuses 1 "build: the kit gives no archive" cortex-m3
-fresh x86_64
+fresh
 : >"$work/repo/target"
 refuses 1 "build: the folder target cannot be written" cortex-m3
-fresh x86_64
+fresh
 sed -i /thumb/d "$work/kit/targets"
 refuses 1 "build: the kit's clang has no back end for cortex-m0 (thumb)" cortex-m0
 [ ! -e "$work/repo/proved" ] || fail "proofs are checked for a processor that there is no back end for"
 builds aarch64
-fresh x86_64
+fresh
 ln -sf "$(type -P false)" "$bin/ld.lld"
 path=$work/kit/bin:$work/bare refuses 1 "build: there is no linker for WebAssembly, wasm-ld; install Debian's package lld" wasm32
 
@@ -208,7 +208,7 @@ path=$work/kit/bin:$work/bare refuses 1 "build: there is no linker for WebAssemb
 not_portable() {
     sed "$1" "$work/good.bc" >"$work/module"
     cmp -s "$work/good.bc" "$work/module" && fail "'$1' changes nothing"
-    said=$(tools/portable board "$work/module" 2>&1 >/dev/null) && fail "tools/portable takes a module changed by '$1'"
+    said=$(tools/portable "$work/module" 2>&1 >/dev/null) && fail "tools/portable takes a module changed by '$1'"
     [[ $said == "portable: "*"$2"* ]] || fail "tools/portable says '$said' of a module changed by '$1', not '$2'"
 }
 not_portable 's/%r1 = zext.*/%r1 = ptrtoint ptr %a0 to i32/' "has 'ptrtoint'"
@@ -232,73 +232,32 @@ not_portable 's/define noundef i32 @muk_small/define noundef ptr @muk_small/' "$
 not_portable 's/i16 noundef %a2/i16 noundef zeroext %a2/' "$entry"
 not_portable 's/@muk_small/@small/' "$entry"
 not_portable 's/^define noundef i32 @muk/define internal noundef i32 @muk/' 'there is no function for others'
-tools/portable board "$work/good.bc" | diff "$work/good.bc" - >"$work/changes"
+tools/portable "$work/good.bc" | diff "$work/good.bc" - >"$work/changes"
 [ "$(grep -c '^[<>]' "$work/changes")" -eq 2 ] && grep -q '^> attributes #0 = { nounwind "probe-stack"="inline-asm" }$' "$work/changes" ||
     fail "tools/portable changes more than the processor's name, or less: $(cat "$work/changes")"
-fresh x86_64
+fresh
 builds x86_64
 sed 's/alloca ptr/alloca i128/' "$work/good.bc" >"$work/repo/target/board/module.bc"
-refuses 1 "build: the module of board may mean another thing on another processor, so it is built for x86-64 alone: line 9 has 'i128'" cortex-m0
+refuses 1 "build: the module of board_c may mean another thing on another processor, so it is built for x86-64 and 64-bit ARM alone: line 9 has 'i128'" cortex-m0
 script "$bin/clang" "[ \"\$1\" != --print-targets ] || exec cat $work/kit/targets" 'exit 1'
-refuses 1 "build: the kit's clang cannot read the module of board" cortex-m3
+refuses 1 "build: the kit's clang cannot read the module of board_c" cortex-m3
 
-# The program: the kit's own on x86-64, otherwise its module, linked by cc, or what the kit's emulator runs where that is asked for.
-fresh x86_64
-RATTLE_HOME=$work/kit builds program
-cmp -s "$work/repo/target/bin/muktrashi" "$work/repo/target/native/muktrashi" || fail "the program on x86-64 is not the kit's own"
-fresh aarch64
+# The program is the kit's own, of one proof, until a source changes. What `rt` keeps beside the sources changes nothing.
+fresh
 builds program
 builds program
-[ "$(cat "$work/repo/proved")" = 'check muktrashi' ] || fail "one proof is enough for a program, and was '$(cat "$work/repo/proved")'"
-judged=$("$work/repo/target/native/muktrashi" <<<good)
-[ "$judged" = good ] && [ ! -e "$work/kit/emulated" ] || fail "the program writes '$judged', $(cat "$work/kit/emulated" 2>&1)"
+[ "$(cat "$work/repo/proved")" = 'muktrashi run' ] || fail "one proof is enough for a program, and was '$(cat "$work/repo/proved")'"
+cmp -s "$work/repo/crates/muktrashi/out/muktrashi" "$work/repo/target/native/muktrashi" || fail "the program is not the kit's own"
+[ "$("$work/repo/target/native/muktrashi" <<<good)" = good ] || fail "the program does not run"
+touch "$work/repo/crates/muktrashi/out/muktrashi"
+builds program
+[ "$(wc -l <"$work/repo/proved")" -eq 1 ] || fail "the program is built again, and no source has changed"
 touch "$work/repo/crates/muktrashi/main.rt"
 builds program
-grep -q -- '--target=aarch64-unknown-linux-gnu' "$work/kit/compiled" || fail "the program is not compiled for aarch64"
-
-# no_native MESSAGE: no program is made but one for the emulator, if that is asked for, and that is said once.
-emulates() { (cd "$work/repo" && PATH="${path-$work/kit/bin:$PATH}" exec tools/build --emulate program); }
-no_native() {
-    refuses 1 "build: $1" program
-    said=$(emulates 2>&1) || fail "tools/build --emulate program ended with status $?"
-    [[ $said == "build: no native program: $1"*"The kit's emulator runs it"* ]] || fail "tools/build --emulate program says '$said', not '$1'"
-    said=$(emulates 2>&1)
-    [ -z "$said" ] || fail "tools/build --emulate program says it again: '$said'"
-    judged=$("$work/repo/target/native/muktrashi" <<<good)
-    [ "$judged" = good ] && [ -e "$work/kit/emulated" ] || fail "the emulated program writes '$judged'"
-    tidy program
-}
-fresh aarch64
-printf '    thumb - a processor\n' >"$work/kit/targets"
-no_native "the kit's clang has no back end for aarch64"
-fresh aarch64
-sed -i 's/alloca ptr, align 8/alloca i128, align 8/' "$work/kit/program.bc"
-no_native "the module of muktrashi may mean another thing on another processor, so it is built for x86-64 alone: line 9 has 'i128'"
-fresh aarch64
-script "$work/kit/bin/cc" 'exit 1'
-no_native "the program cannot be linked ('cc'; Debian's packages gcc and libc6-dev); target/build.log has what it said"
-fresh aarch64
-script "$work/kit/bin/cc" 'printf "#!/bin/sh\necho wrong\n" >"$3"; chmod +x "$3"'
-no_native "the native program does not write what crates/muktrashi/stdout has"
-fresh aarch64
-rm "$work/kit/bin/cc"
-path=$work/kit/bin:$work/bare refuses 1 "build: there is no linker, cc; install Debian's packages gcc and libc6-dev" program
-[ ! -e "$work/repo/proved" ] || fail "proofs are checked for a program that cannot be linked"
-path=$work/kit/bin:$work/bare no_native "there is no linker, cc; install Debian's packages gcc and libc6-dev"
-# Now there is one.
-script "$work/kit/bin/cc" 'cp "$1" "$3"'
-rm "$work/kit/emulated"
-builds program
-judged=$("$work/repo/target/native/muktrashi" <<<good)
-[ "$judged" = good ] && [ ! -e "$work/kit/emulated" ] || fail "the program, emulated before, is not native: it writes '$judged'"
-[ ! -e "$work/repo/target/native/muktrashi.x86_64" ] || fail "the program that was emulated is still there"
-fresh aarch64
-sed -i /aarch64/d "$work/kit/targets"
-rm "$bin/qemu-x86_64"
-refuses 1 "and the kit has no emulator for this machine, aarch64" --emulate program
+[ "$(wc -l <"$work/repo/proved")" -eq 2 ] || fail "a source has changed, and the program is not built again"
 
 # A build that is stopped leaves nothing, and stops what it began.
-fresh x86_64
+fresh
 script "$work/kit/bin/rt" "sleep 30 & echo \$! >$work/sleeps" wait
 (cd "$work/repo" && PATH="$work/kit/bin:$PATH" exec tools/build cortex-m0) 2>/dev/null &
 stopped=$!
@@ -313,10 +272,12 @@ tidy cortex-m0
 unset TMPDIR
 if command -v rt >/dev/null 2>&1; then
     tools/build all || fail "tools/build all ended with status $?"
-    tools=${RATTLE_HOME:-$(dirname "$(dirname "$(readlink -f "$(command -v rt)")")")}/on/$(uname -m)/toolchain
-    "$tools/bin/clang" --target=x86_64-unknown-linux-gnu -march=x86-64 -ffunction-sections -fdata-sections -mllvm -trap-unreachable \
-        -mllvm -no-trap-after-noreturn -fPIC -O3 -c -x ir target/board/module.bc -o "$work/object" || fail "the module is not compiled for x86-64"
-    "$tools/bin/llvm-ar" p target/board/x86_64/libmuktrashi.a | cmp - "$work/object" || fail "target/board/module.bc is not what the kit compiles"
+    tools=$(dirname "$(dirname "$(readlink -f "$(command -v rt)")")")/toolchain/bin
+    "$tools/clang" --target=x86_64-unknown-linux-gnu -march=x86-64 -mllvm -no-trap-after-noreturn -ffunction-sections -fdata-sections \
+        -mllvm -trap-unreachable -mllvm -no-x86-call-frame-opt -mllvm -disable-machine-licm -mllvm -disable-postra-machine-licm \
+        -mllvm -sink-common-insts=false --no-default-config -no-canonical-prefixes -fintegrated-cc1 -Werror -fPIC -O3 -c -x ir target/board/module.bc \
+        -o "$work/object" || fail "the module is not compiled for x86-64"
+    "$tools/llvm-ar" p target/board/x86_64/libmuktrashi.a | cmp - "$work/object" || fail "target/board/module.bc is not what the kit compiles"
 else
     printf "build.sh: warning: NOT RUN: the real module; the command 'rt' of the Rattle kit is not on the PATH\n" >&2
 fi

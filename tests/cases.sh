@@ -8,7 +8,7 @@ command -v python3 >/dev/null 2>&1 || {
     printf 'cases.sh: python3, which feeds the program in pieces, is not on the PATH\n' >&2
     exit 2
 }
-tools/build --emulate program || {
+tools/build program || {
     printf 'cases.sh: the program cannot be built\n' >&2
     exit 1
 }

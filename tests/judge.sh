@@ -1,6 +1,6 @@
 #!/usr/bin/env bash
 # ./judge says in words what is wrong: no kit, a build that fails, a file that cannot be read, an answer that cannot be written. It builds once, also where
-# two ask at once, in silence unless that takes long, and answers a live input line by line. The kit here is a stand-in for x86-64. The program that it
+# two ask at once, in silence unless that takes long, and answers a live input line by line. The kit here is a stand-in. The program that it
 # builds writes what it reads and, as the real one, ends in silence where it cannot write.
 set -u
 cd "$(dirname "$0")/.." || exit 2
@@ -22,15 +22,14 @@ script() {
 # fresh COMMANDS: a repository with nothing built, and a kit whose `rt` runs COMMANDS.
 fresh() {
     rm -rf "$work/repo" "$work/kit"
-    mkdir -p "$work/repo/crates/muktrashi/src" "$work/repo/tools" "$work/repo/.ci" "$work/kit/bin" "$work/kit/on/x86_64/toolchain/bin"
+    mkdir -p "$work/repo/crates/muktrashi/src" "$work/repo/tools" "$work/repo/.ci" "$work/kit/bin" "$work/kit/toolchain/bin"
     cp judge "$work/repo/"
     cp tools/build "$work/repo/tools/"
     printf 'the kit\n' >"$work/repo/.ci/kit"
     printf 'muktrashi:\n' >"$work/repo/crates.txt"
     : >"$work/kit/KIT-ID"
     script "$work/kit/bin/rt" "$1"
-    script "$work/kit/bin/uname" 'echo x86_64'
-    for tool in clang llvm-ar; do script "$work/kit/on/x86_64/toolchain/bin/$tool" 'exit 1'; done
+    for tool in clang llvm-ar; do script "$work/kit/toolchain/bin/$tool" 'exit 0'; done
 }
 
 # expect STATUS OUTPUT MESSAGE COMMAND..: what the command writes, and what it says on standard error (nothing where MESSAGE is empty).
@@ -50,7 +49,7 @@ expect() {
 }
 
 script "$work/program" 'cat 2>/dev/null' 'exit 0'
-good="cat; mkdir -p target/bin && cp '$work/program' target/bin/muktrashi && echo built >>builds"
+good="cat; mkdir -p out && cp '$work/program' out/muktrashi && echo built >>../../builds"
 printf 'a capture\n' >"$work/capture"
 
 fresh "$good"
@@ -106,7 +105,7 @@ fresh "sleep 1.5; $good"
 expect 0 'a capture' 'building, and checking the proofs' "$work/repo/judge"
 
 # Two at once: one builds, the other waits for it.
-fresh "mkdir busy || exit 1; sleep 1; $good; rmdir busy"
+fresh "mkdir ../../busy || exit 1; sleep 1; $good; rmdir ../../busy"
 PATH="$work/kit/bin:$PATH" "$work/repo/judge" "$work/capture" >"$work/first" 2>/dev/null &
 sleep 0.3
 expect 0 'a capture' 'build: another build runs; waiting for it' "$work/repo/judge"
@@ -115,7 +114,7 @@ wait "$!" || fail "the first of two at once ended with status $?"
 [ "$(wc -l <"$work/repo/builds")" -eq 1 ] || fail "two at once built twice"
 
 fresh 'echo no proof of that; exit 1'
-expect 1 '' "build: the crate muktrashi is not proved ('rt check muktrashi' ended with status 1); target/build.log has what it said" "$work/repo/judge"
+expect 1 '' "build: the crate muktrashi is not proved ('rt run' in crates/muktrashi ended with status 1); target/build.log has what it said" "$work/repo/judge"
 expect 1 '' "judge: the program cannot be built" "$work/repo/judge"
 [ "$(cat "$work/repo/target/build.log")" = 'no proof of that' ] || fail "target/build.log has '$(cat "$work/repo/target/build.log")'"
 
