@@ -137,7 +137,8 @@ answer_parts false o refusal n m rows need h = absurd (zero_not_one cc)
 pub passed_gives : (table : List ℕ) (rows need : ℕ) → check_of table ≡ passed rows need → Passed table rows need
 unfolding check_of
 passed_gives table rows need h =
-    let parts = answer_parts (length_passes (length table)) (first_fault table (rows_of table)) (refused Length) (rows_of table) (need_of table) rows need h in
+    let fault : Option Refused = first_fault table (rows_of table) in
+    let parts = answer_parts (length_passes (length table)) fault (refused Length) (rows_of table) (need_of table) rows need h in
     let size = tells_passed (whole_rows_told (length table)) parts.0 in
     record {
       whole = omega (arith, parts.2);

@@ -8,7 +8,6 @@ use Rattle.meaning.proofs.Truths.{and_left, and_right}
 use Rattle.meaning.specs.Heartbeat.{heartbeat_bit}
 use Rattle.kinds.specs.Kinds.{Rule, plain, stretch, Kind, kinds, kind_at, is_lower}
 use Rattle.kinds.specs.declared.plain.Plain.{Plain}
-use Rattle.kinds.specs.declared.plain.Plain.TheVariants as Plain
 use Rattle.kinds.specs.declared.stretch.Keep.{Keep}
 use Rattle.kinds.specs.declared.stretch.Keep.TheVariants.{Unasked, WhileX, WhileY}
 use Rattle.kinds.specs.declared.stretch.Feed.{Feed}

@@ -59,7 +59,10 @@ formula_same f g r row same (plain Plain.Previous) names = rw (same _ names)
 formula_same f g r row same (stretch columns) names =
     rw (kept_same Formula.truth f g r row same columns.keep names.0, same _ names.1)
 
-pub formula-made : (table : List ℕ) (r : ℕ) → Names r (numbers_at table r) (rule_of (numbers_at table r)) → formula_of table r ≡ made_of table r (formula_of table)
+pub formula-made :
+    (table : List ℕ) (r : ℕ)
+    → Names r (numbers_at table r) (rule_of (numbers_at table r))
+    → formula_of table r ≡ made_of table r (formula_of table)
 unfolding formula_of
 formula-made table r names =
     below_at Formula.truth (made_of table) (suc r) r (omega arith)

@@ -123,7 +123,10 @@ stretch-fits table size rows row ready lower read place said =
     rw (place, said, read) (omega (arith, ready.room))
 
 -- The rows by a count that is the table's.
-pub rows-counted : (table store : List ℕ) (seen clock last count rows : ℕ) (truths counts firsts : List ℕ) {answer : Bool} → count ≡ rows → rows ≡ rows_of table
+pub rows-counted :
+    (table store : List ℕ) (seen clock last count rows : ℕ) (truths counts firsts : List ℕ) {answer : Bool}
+    → count ≡ rows
+    → rows ≡ rows_of table
     → answer ≡ every rows (sound_row? table store (record_of seen clock last rows truths counts firsts))
     → every (rows_of table) (sound_row? table store (record_of seen clock last count truths counts firsts)) ≡ answer
 rows-counted table store seen clock last count rows truths counts firsts same counted told = rw (told, ← counted, same)

@@ -1,5 +1,4 @@
 -- `dead_rows::marks::mark_below` meets its contract, by its one test. Assumes nothing.
-use borrow.Author.Rules.{rules}
 use borrow.Author.Tests.{lt-ltb, le-ltb}
 use Rattle.dead_rows.specs.Marks.{marked_below}
 use Rattle.dead_rows.proofs.marks.mark_below.Goals as goal

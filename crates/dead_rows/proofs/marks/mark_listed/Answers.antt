@@ -1,9 +1,5 @@
 use native.Mathlib.Omega.{arith}
-use mathlib.Core.Path.{◌≡◌, refl, sym, ◌∙◌}
-use Prim.Native.Nat.{◌-◌, ◌≤◌}
-use lib.ListN.{length, drop}
-use borrow.Author.Rules.{rules}
-use Rattle.dead_rows.specs.Marks.{marked_listed}
+use mathlib.Core.Path.{refl, sym, ◌∙◌}
 use Rattle.dead_rows.proofs.MarksLaws.{listed_next, listed-none}
 use Rattle.dead_rows.proofs.marks.mark_listed.Goals as goal
 
@@ -12,9 +8,8 @@ loop-place-init c = (refl, omega arith)
 
 pub loop-place-preserved : goal.loop-place-preserved
 loop-place-preserved c =
-    let d = c in
-    let list = d.args.list.now in
-    (d.loop-place.invariant.0 ∙ rw c.mark_below.ensures (listed_next _ list d.loop-place.marks d.loop-place.place (omega arith)), omega arith)
+    let l = c.loop-place in
+    (l.invariant.0 ∙ rw c.mark_below.ensures (listed_next _ c.args.list.now l.marks l.place (omega arith)), omega arith)
 
 pub returns : goal.returns
 returns c =

@@ -1,5 +1,4 @@
 -- `dead_rows::marks::mark_where` meets its contract, by its one test. Assumes nothing.
-use borrow.Author.Rules.{rules}
 use Rattle.dead_rows.specs.Marks.{marked_where}
 use Rattle.dead_rows.proofs.marks.mark_where.Goals as goal
 

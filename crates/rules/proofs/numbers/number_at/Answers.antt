@@ -1,5 +1,4 @@
 -- `rules::numbers::number_at` meets its contract. Assumes nothing.
-use borrow.Author.Rules.{rules}
 use mathlib.Core.Path.{sym}
 use lib.ListN.{get_or-eq_default}
 use Rattle.rules.proofs.numbers.number_at.Goals as goal

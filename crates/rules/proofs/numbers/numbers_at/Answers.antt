@@ -1,5 +1,4 @@
 -- `rules::numbers::numbers_at` meets its contract: a row past the table's length has no number in it. Assumes nothing.
-use borrow.Author.Rules.{rules}
 use native.Mathlib.Nat.{add-zero}
 use Rattle.rules.specs.Rows.{numbers_at}
 use Rattle.rules.proofs.RowsLaws.{numbers-past}

@@ -1,6 +1,5 @@
 -- `rules::plain::says` meets its contract: the column of the kind's line. Assumes nothing.
-use borrow.Author.Rules.{rules}
 use Rattle.rules.proofs.plain.says.Goals as goal
 
 pub returns : goal.returns
-returns c = rw c.Line-of.ensures
+returns c = rw c.line_of-line.ensures

@@ -1,6 +1,5 @@
 -- `rules::stretch::columns` meets its contract: the last column of the kind's line. Assumes nothing.
-use borrow.Author.Rules.{rules}
 use Rattle.rules.proofs.stretch.columns.Goals as goal
 
 pub returns : goal.returns
-returns c = rw c.Line-of.ensures
+returns c = rw c.line_of-line.ensures

@@ -1,5 +1,4 @@
 -- `rules::stretch::spans` meets its contract: the figure where the table of kinds says that the row owns a stretch. Assumes nothing.
-use borrow.Author.Rules.{rules}
 use mathlib.Core.Path.{sym, ◌∙◌}
 use Rattle.rules.proofs.StretchesLaws.{spans_by_column}
 use Rattle.rules.proofs.stretch.spans.Goals as goal

@@ -1,5 +1,4 @@
 -- `rules::stretch::spans_for` meets its contract, the figure of the meaning. Assumes nothing.
-use borrow.Author.Rules.{rules}
 use mathlib.Core.Path.{sym, ◌∙◌}
 use Prim.Native.Nat.{◌+◌}
 use native.Mathlib.Omega.{arith}

@@ -1,5 +1,4 @@
 -- `rules::stretch::words` meets its contract: the spans of a row are at most half of b and one, so their words fit. Assumes nothing.
-use borrow.Author.Rules.{rules}
 use native.Mathlib.Omega.{arith}
 use Rattle.rules.proofs.StretchesLaws.{spans-below}
 use Rattle.rules.proofs.stretch.words.Goals as goal

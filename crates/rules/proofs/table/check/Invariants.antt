@@ -3,23 +3,9 @@
 -- The measures are the rows and the fields that are left. Assumes nothing.
 use Prim.Native.Nat.{ℕ, ◌-◌, ◌≤◌, ◌<◌}
 use mathlib.Core.Bool.{true}
-use mathlib.Core.List.{List}
-use mathlib.Core.Option.{some}
-use mathlib.Core.Logic.{⊎_elim}
-use mathlib.Core.Path.{◌≡◌, refl, sym, ap, ◌∙◌}
-use native.Mathlib.Nat.{eq-or-lt_of_le}
-use lib.ListN.{length}
-use native.Mathlib.Omega.{arith}
-use borrow.Author.Tests.{not-true, not-false}
-use Rattle.meaning.proofs.Tells.{tells_passed}
-use Rattle.kinds.specs.Kinds.{known}
+use mathlib.Core.Path.{◌≡◌}
 use Rattle.rules.specs.Limits.{row_numbers}
-use Rattle.rules.specs.Rows.{numbers_at}
-use Rattle.refusals.specs.Refusals.{Refused}
-use Rattle.rules.specs.Stretches.{width, offset}
-use Rattle.rules.specs.Table.{length_passes, row_passes, limits_pass, fault_of, first_fault, refused_by, check_of}
-use Rattle.rules.specs.declared.numbers.Numbers.{Numbers}
-use Rattle.rules.proofs.TableLaws.{
+use Rattle.rules.proofs.TableLaws.{field_fits, SoFar}
 use Rattle.rules.proofs.table.check.Given as goal
 
 abbrev pub invariant-fields : goal.invariant-fields

@@ -1,5 +1,4 @@
 -- `rules::table::limits_pass` meets its contract: the tests of `limits_pass`, each with its own way out. Assumes nothing.
-use borrow.Author.Rules.{rules}
 use borrow.Author.Tests.{le-leb, lt-leb}
 use mathlib.Core.Path.{sym, ◌∙◌}
 use Rattle.rules.specs.Table.{limits_pass}

@@ -8,21 +8,19 @@ use Rattle.soundness.proofs.fit.fit.Goals as goal
 
 pub sound_record-requires : goal.sound_record-requires
 sound_record-requires c =
-    let passes = sym c.ready-checked.ensures ∙ ap check_reply c.checked-in-Passed-1.given.1 in
-    (ready_table _ _ _ _ passes, (ready_gives _ _ _ _ passes).table.passes.counted)
+    let passes = sym c.ready-checked.ensures ∙ ap check_reply c.in-Passed.is in
+    record { table_ready = ready_table _ _ _ _ passes; rows_value = (ready_gives _ _ _ _ passes).table.passes.counted }
 
 pub returns-then-sound_record : goal.returns-then-sound_record
 unfolding fit_of
 returns-then-sound_record c =
-    let d = c in
-    rw (← d.ready-checked.ensures, d.checked-in-Passed-1.given.1, ← c.sound_record.ensures, c.if-sound_record.true)
+    rw (← c.ready-checked.ensures, c.in-Passed.is, ← c.sound_record.ensures, c.if-sound_record.true)
 
 pub returns-in-Refused : goal.returns-in-Refused
 unfolding fit_of
-returns-in-Refused c = rw (← c.ready-checked.ensures, c.checked-1.given.1)
+returns-in-Refused c = rw (← c.ready-checked.ensures, c.in-Refused.is)
 
 pub returns-else-sound_record : goal.returns-else-sound_record
 unfolding fit_of
 returns-else-sound_record c =
-    let d = c in
-    rw (← d.ready-checked.ensures, d.checked-in-Passed-1.given.1, ← c.sound_record.ensures, c.if-sound_record.false)
+    rw (← c.ready-checked.ensures, c.in-Passed.is, ← c.sound_record.ensures, c.if-sound_record.false)

@@ -1,34 +1,28 @@
 -- `soundness::soundness::sound_entry` meets its contract, test by test. Assumes nothing.
 use Prim.Native.Nat.{◌≤◌, ◌<◌}
 use native.Mathlib.Omega.{arith}
-use borrow.Author.Rules.{rules}
 use borrow.Author.Tests.{le-leb, lt-leb, eq-eqb, ne_eqb}
 use Rattle.soundness.proofs.soundness.sound_entry.Goals as goal
-
--- The count is within the figure from here on.
-
-within : (c : tie.Else2) → c.args.count ≤ c.args.spans
-within c = omega (arith, c.wide.ensures)
 
 pub returns-then-truth-gt1 : goal.returns-then-truth-gt1
 returns-then-truth-gt1 c = rw (lt-leb _ _ c.if-truth-gt1.true)
 
 pub returns-then-spans-wide : goal.returns-then-spans-wide
 returns-then-spans-wide c =
-    let args = c.args in
-    let over : args.spans < args.count = omega (arith, c.wide.ensures) in
+    let over : c.args.spans < c.args.count = omega (arith, c.wide.ensures) in
     rw (le-leb _ _ c.if-truth-gt1.false, lt-leb _ _ over)
 
 pub returns-then-seen : goal.returns-then-seen
 returns-then-seen c =
-    rw (le-leb _ _ c.if-truth-gt1.false, le-leb _ _ (within c), c.if-seen.true)
+    let within : c.args.count ≤ c.args.spans = omega (arith, c.wide.ensures) in
+    rw (le-leb _ _ c.if-truth-gt1.false, le-leb _ _ within, c.if-seen.true)
 
 pub returns-then-truth-eq0 : goal.returns-then-truth-eq0
 returns-then-truth-eq0 c =
-    let d = c in
-    rw (le-leb _ _ d.if-truth-gt1.false, le-leb _ _ (within d), c.if-seen.false, eq-eqb _ _ c.if-truth-eq0.true)
+    let within : c.args.count ≤ c.args.spans = omega (arith, c.wide.ensures) in
+    rw (le-leb _ _ c.if-truth-gt1.false, le-leb _ _ within, c.if-seen.false, eq-eqb _ _ c.if-truth-eq0.true)
 
 pub returns : goal.returns
 returns c =
-    let d = c in
-    rw (le-leb _ _ d.if-truth-gt1.false, le-leb _ _ (within d), c.if-seen.false, ne_eqb _ _ c.if-truth-eq0.false)
+    let within : c.args.count ≤ c.args.spans = omega (arith, c.wide.ensures) in
+    rw (le-leb _ _ c.if-truth-gt1.false, le-leb _ _ within, c.if-seen.false, ne_eqb _ _ c.if-truth-eq0.false)

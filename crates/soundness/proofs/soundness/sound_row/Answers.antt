@@ -11,21 +11,18 @@ use Rattle.soundness.proofs.soundness.sound_row.Goals as goal
 
 pub returns-then-spans-eq0 : goal.returns-then-spans-eq0
 returns-then-spans-eq0 c =
-    let d = c in
-    let args = d.args in
-    let pre = d.requires in
+    let args = c.args in
+    let pre = c.requires in
     let entry : sound_entry? args.seen args.truth args.count args.numbers ≡ true =
-    rw (← pre.0, ← d.sound_entry.ensures) c.if-sound_entry.true
+    rw (← pre.0, ← c.sound_entry.ensures) c.if-sound_entry.true
     in
     let within : args.count ≤ args.spans = rw pre.0 (entry_within args.seen args.truth args.count args.numbers entry) in
     rw (entry, bare_sound args.words.now args.first args.count args.clock args.last args.numbers (omega (arith, pre)) (omega arith))
 
 pub returns-then-sound_entry : goal.returns-then-sound_entry
 returns-then-sound_entry c =
-    let d = c in
-    rw (← d.requires.0, ← d.sound_entry.ensures, c.if-sound_entry.true, c.sound_stretch.ensures)
+    rw (← c.requires.0, ← c.sound_entry.ensures, c.if-sound_entry.true, c.sound_stretch.ensures)
 
 pub returns : goal.returns
 returns c =
-    let d = c in
-    rw (← d.requires.0, ← d.sound_entry.ensures, c.if-sound_entry.false)
+    rw (← c.requires.0, ← c.sound_entry.ensures, c.if-sound_entry.false)

@@ -20,7 +20,10 @@ use Rattle.soundness.proofs.SoundnessLaws.{every_not, every_more, row_told, offs
 use Rattle.soundness.proofs.soundness.sound_rows.Given as goal
 
 abbrev pub invariant-loop-row : goal.invariant-loop-row
-invariant-loop-row l = (l.row ≤ l.rows) × (l.from ≡ offset l.table l.row) × (every l.row (sound_row? l.table l.store (record_of l.seen l.clock l.last l.rows l.truths l.counts l.firsts)) ≡ true)
+invariant-loop-row l =
+    (l.row ≤ l.rows)
+    × (l.from ≡ offset l.table l.row)
+    × (every l.row (sound_row? l.table l.store (record_of l.seen l.clock l.last l.rows l.truths l.counts l.firsts)) ≡ true)
 
 abbrev pub decreases-loop-row : goal.decreases-loop-row
 decreases-loop-row l = l.rows - l.row

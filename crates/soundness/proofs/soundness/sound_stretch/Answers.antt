@@ -9,13 +9,11 @@ use Rattle.soundness.proofs.soundness.sound_stretch.Goals as goal
 
 pub returns : goal.returns
 returns c =
-    let reached = c in
-    let start = reached in
-    let early : start.args.last ≤ time_limit = omega (arith, start.requires) in
+    let early : c.args.last ≤ time_limit = omega (arith, c.requires) in
     rw (
       c.sound.ensures,
       c.length_of.ensures,
-      reached.last_reached-latest_last.ensures ∙ reached-early start.args.last start.args.numbers.b early,
+      c.last_reached-latest_last.ensures ∙ reached-early c.args.last c.args.numbers.b early,
       c.later-latest_first.ensures,
       c.wide.ensures,
     )

@@ -13,10 +13,8 @@ returns-then-clock-gt-TIME_LIMIT c = rw (le-leb _ _ c.if-seen-gt1.false, le-leb 
 
 pub returns-then-seen-eq1 : goal.returns-then-seen-eq1
 returns-then-seen-eq1 c =
-    let t = c in
-    rw (le-leb _ _ t.if-seen-gt1.false, le-leb _ _ t.if-clock-last.false, le-leb _ _ t.if-clock-gt-TIME_LIMIT.false, eq-eqb _ _ c.if-seen-eq1.true)
+    rw (le-leb _ _ c.if-seen-gt1.false, le-leb _ _ c.if-clock-last.false, le-leb _ _ c.if-clock-gt-TIME_LIMIT.false, eq-eqb _ _ c.if-seen-eq1.true)
 
 pub returns : goal.returns
 returns c =
-    let t = c in
-    rw (le-leb _ _ t.if-seen-gt1.false, le-leb _ _ t.if-clock-last.false, le-leb _ _ t.if-clock-gt-TIME_LIMIT.false, ne_eqb _ _ c.if-seen-eq1.false)
+    rw (le-leb _ _ c.if-seen-gt1.false, le-leb _ _ c.if-clock-last.false, le-leb _ _ c.if-clock-gt-TIME_LIMIT.false, ne_eqb _ _ c.if-seen-eq1.false)

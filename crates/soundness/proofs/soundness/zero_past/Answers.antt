@@ -1,11 +1,7 @@
-use mathlib.Core.Bool.{◌&&◌}
 use mathlib.Core.Path.{◌≡◌, sym}
-use Prim.Native.Nat.{◌-◌, ◌≤◌}
 use native.Mathlib.Omega.{arith}
 use borrow.Author.Tests.{eq-eqb, ne_eqb}
-use lib.Dec.{eqb}
 use Rattle.rules.specs.Limits.{row_limit}
-use Rattle.soundness.specs.Soundness.{every, zero_past?}
 use Rattle.soundness.proofs.SoundnessLaws.{none-past, past_more}
 use Rattle.soundness.proofs.soundness.zero_past.Goals as goal
 
@@ -15,7 +11,7 @@ loop-row-init c = (omega arith, c.requires, sym (none-past _ _ _ _))
 pub loop-row-preserved : goal.loop-row-preserved
 loop-row-preserved c =
     let l = c.loop-row in
-    (omega arith, omega arith, past_more _ _ _ _ l.truth_bits-1 l.number_bits-1 l.invariant.0 l.invariant.2)
+    (omega arith, omega arith, past_more _ _ _ _ l.truth_bits l.number_bits l.invariant.0 l.invariant.2)
 
 pub returns-then-truth_bits-eq0 : goal.returns-then-truth_bits-eq0
 returns-then-truth_bits-eq0 c =
