@@ -43,6 +43,15 @@ else.2:                                           ; preds = %start
   ret i1 %r5
 }
 
+define internal noundef { i64, i64 } @"board::asm::pair"(ptr noundef %a0) #0 {
+start:
+  %r0 = icmp eq ptr %a0, null
+  %r1 = load { i64, i64 }, ptr %a0, align 8
+  %r2 = extractvalue { i64, i64 } %r1, 0
+  %r3 = insertvalue { i64, i64 } %r1, i64 %r2, 1
+  ret { i64, i64 } %r3
+}
+
 define noundef i32 @muk_small(ptr noundef %a0, i64 noundef %a1, i16 noundef %a2) #0 {
 start:
   %r0 = call i1 @"board::asm::double"(ptr %a0, i64 %a1)
@@ -218,6 +227,7 @@ not_portable 's/^; Function.*/%pair = type { i32, i32 }/' 'has data or a type of
 not_portable 's/alloca ptr, align 8/alloca { i64, i8 }, align 8/' 'has a struct or a vector'
 not_portable 's/alloca ptr, align 8/alloca <4 x i32>, align 16/' 'has a struct or a vector'
 not_portable 's/^define internal noundef zeroext i1/define internal { i64, i1 }/' 'has a struct or a vector'
+not_portable 's/load { i64, i64 }/load { ptr, i64 }/' 'has a struct or a vector'
 not_portable 's/getelementptr inbounds nuw i8/getelementptr inbounds nuw ptr/' 'has a place that is not counted in bytes'
 not_portable 's/%r5 = icmp.*/%r5 = fcmp olt double 1.0, 2.0/' "has 'fcmp'"
 not_portable 's/alloca ptr, align 8/alloca i128, align 8/' "has 'i128'"
