@@ -2,7 +2,6 @@
 use mathlib.Core.Path.{◌≡◌, refl, ap}
 use Rattle.refusals.proofs.Outcomes.{refusal_of, refusal_back}
 use Rattle.monitor.specs.declared.answer.Answer.{Answer}
-use Rattle.monitor.specs.declared.answer.Answer.TheVariants as Answer
 use Rattle.monitor.specs.Step.{Reply, verdict, clock_moved, refusal, said}
 
 abbrev pub answer_of : Reply → Answer

@@ -6,7 +6,6 @@ use Rattle.refusals.specs.Refusals.{Refused, refused}
 use Rattle.rules.specs.Table.{CheckReply, passed, refused_by}
 use Rattle.soundness.specs.declared.record.Record.{Record}
 use Rattle.monitor.specs.declared.answer.StartAnswer.{StartAnswer}
-use Rattle.monitor.specs.declared.answer.StartAnswer.TheVariants as StartAnswer
 use Rattle.monitor.specs.declared.answer.Started.{Started}
 use Rattle.soundness.specs.Record.{nothing_seen}
 use Rattle.soundness.specs.Setup.{Setup}

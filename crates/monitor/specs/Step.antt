@@ -8,7 +8,6 @@ use Rattle.refusals.specs.declared.refusal.Refusal.{Refusal}
 use Rattle.refusals.specs.declared.refusal.Refusal.TheVariants.{Earlier, Late, Unsound}
 use Rattle.soundness.specs.declared.record.Record.{Record}
 use Rattle.monitor.specs.declared.answer.Answer.{Answer}
-use Rattle.monitor.specs.declared.answer.Answer.TheVariants as Answer
 use Rattle.monitor.specs.declared.answer.Judged.{Judged}
 use Rattle.times.specs.Times.{time_limit}
 use Rattle.row_list.specs.Verdict.{verdict_number}

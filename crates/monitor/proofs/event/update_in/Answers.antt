@@ -2,7 +2,6 @@
 -- the store (`Post-is`). Assumes nothing.
 use mathlib.Core.Path.{◌≡◌, refl, ◌∙◌}
 use Prim.Native.Nat.{◌-◌, ◌≤◌}
-use borrow.Author.Rules.{rules}
 use lib.ListN.{length}
 use borrow.Rule.Slice.PartMut.{mid_len, Post-is}
 use Rattle.meaning.specs.Spans.{◌to◌}

@@ -1,6 +1,5 @@
 -- `monitor::heartbeat::clip_in` meets its contract: what `clip` leaves of a part that lays out its spans, said of the store (`clipped_in`). Assumes
 -- nothing.
-use borrow.Author.Rules.{rules}
 use Rattle.monitor.proofs.ClippingLaws.{clipped_in}
 use Rattle.monitor.proofs.heartbeat.clip_in.Goals as goal
 

@@ -1,4 +1,4 @@
-use Rattle.std.proofs.Common.{◌≡◌, ◌<◌, refl, arith}
+use Rattle.std.proofs.Common.{refl, arith}
 use Rattle.rules.specs.Stretches.{offset}
 use Rattle.monitor.specs.Event.{entries_with, words_done, store_with}
 use Rattle.monitor.proofs.ClippingLaws.{clip-ready, clip-counts, clip-places, clip-turn, clip-next}
@@ -35,9 +35,9 @@ overflow_cast-firsts c =
 
 pub loop-row-preserved : goal.loop-row-preserved
 loop-row-preserved c = (
-      omega arith,
-      clip-next _ _ _ _ _ _ c.requires (omega arith) c.loop-row.invariant.1 c.loop-row.invariant.2
-          c.numbers_at-numbers.ensures c.words.ensures refl refl,
-      clip-turn _ _ _ _ _ _ c.requires (omega arith) c.loop-row.invariant.1 c.loop-row.invariant.2
-          c.numbers_at-numbers.ensures c.words.ensures refl refl c.clip_in-left.ensures,
-    )
+  omega arith,
+  clip-next _ _ _ _ _ _ c.requires (omega arith) c.loop-row.invariant.1 c.loop-row.invariant.2
+      c.numbers_at-numbers.ensures c.words.ensures refl refl,
+  clip-turn _ _ _ _ _ _ c.requires (omega arith) c.loop-row.invariant.1 c.loop-row.invariant.2
+      c.numbers_at-numbers.ensures c.words.ensures refl refl c.clip_in-left.ensures,
+)

@@ -18,7 +18,7 @@ judge_sound-requires c =
     let args = c.args in
     let kept : Record = record_met args.arrival args.count args.truths.now args.counts.now args.firsts.now in
     let fits : Fit (setup_of args.table.now args.list.now) args.store.now kept c.in-Passed.rows =
-        fit_gives _ _ _ _ _ (sym (ap check_reply c.in-Passed.is) ∙ c.fit-checked.ensures) in
+    fit_gives _ _ _ _ _ (sym (ap check_reply c.in-Passed.is) ∙ c.fit-checked.ensures) in
     record { store_value = (fits.ready, fits.counted); firsts_value = rw (← counted fits) fits.sound }
 
 pub returns-in-Refused : goal.returns-in-Refused
@@ -32,5 +32,5 @@ returns-in-Passed c =
     let args = c.args in
     let kept : Record = record_met args.arrival args.count args.truths.now args.counts.now args.firsts.now in
     let fits : Fit (setup_of args.table.now args.list.now) args.store.now kept c.in-Passed.rows =
-        fit_gives _ _ _ _ _ (sym (ap check_reply c.in-Passed.is) ∙ c.fit-checked.ensures) in
+    fit_gives _ _ _ _ _ (sym (ap check_reply c.in-Passed.is) ∙ c.fit-checked.ensures) in
     rw (counted fits) c.judge_sound.ensures

@@ -25,7 +25,7 @@ pub clip_rows-requires : goal.clip_rows-requires
 clip_rows-requires c =
     let args = c.args in
     let passes : Unrefused (setup_of args.table.now args.list.now) args.store.now args.arrival args.rows args.truths.now args.counts.now args.firsts.now =
-        unrefused _ _ _ _ c.requires.store_value.0 c.requires.firsts_value c.if-arrival-gt-TIME_LIMIT.false c.if-arrival.false in
+    unrefused _ _ _ _ c.requires.store_value.0 c.requires.firsts_value c.if-arrival-gt-TIME_LIMIT.false c.if-arrival.false in
     rw c.requires.store_value.1
     (rows-laid _ _ _ _
     (accepted (setup_of args.table.now args.list.now) args.store.now
