@@ -1,5 +1,3 @@
 -- Laws of the entry for C; each function's proof stands in the folder of its name.
-pub mod LineLaws
-pub mod InPlace
 pub mod RefusedLaws
 pub mod Outcomes

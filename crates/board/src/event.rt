@@ -10,8 +10,7 @@ use monitor::step;
 use soundness::record::Record;
 
 // Refusals 1 to 3, 10, 11, 4, then 7, 6, 5, or the verdict; of a heartbeat, that the clock moved.
-#[unsafe(no_mangle)]
-pub extern "C" fn muk_event(
+pub fn muk_event(
     table: &[u32],
     list: &[u32],
     store: &mut [u64],

@@ -9,8 +9,7 @@ use monitor::step;
 use soundness::record::Record;
 
 // What `muk_event` answers at that time.
-#[unsafe(no_mangle)]
-pub extern "C" fn muk_frame(
+pub fn muk_frame(
     table: &[u32],
     list: &[u32],
     store: &mut [u64],

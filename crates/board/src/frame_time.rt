@@ -7,8 +7,7 @@ use times::frame_time;
 use times::frame_time::Timed;
 
 // Refusal 6 where the clock is over the limit; or 0, and the time that the counter shows since the clock is written.
-#[unsafe(no_mangle)]
-pub extern "C" fn muk_frame_time(clock: u64, counter: u16, time: &mut u64) -> u32
+pub fn muk_frame_time(clock: u64, counter: u16, time: &mut u64) -> u32
     ensures { TimeLeaves clock counter time.old result time.new }
 {
     let found = frame_time::frame_time(clock, counter);

@@ -7,13 +7,7 @@ use lines::frame;
 use lines::frame::FrameFound;
 
 // The end, a frame, whose counter and mask are written, or refusal 8 or 9. The place becomes the next one. Any place may be asked for.
-#[unsafe(no_mangle)]
-pub extern "C" fn muk_read_frame(
-    text: &[u8],
-    place: &mut u64,
-    counter: &mut u16,
-    mask: &mut u32,
-) -> u32
+pub fn muk_read_frame(text: &[u8], place: &mut u64, counter: &mut u16, mask: &mut u32) -> u32
     ensures { LineLeaves text.now place.old counter.old mask.old
         result place.new counter.new mask.new }
 {

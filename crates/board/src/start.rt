@@ -12,13 +12,7 @@ use monitor::start;
 use soundness::record::{Record, nothing_seen};
 
 // Refusals 1 to 3, 10, 11 and 4, and an all-zero record; or a record that has seen no event, its clock 0, and zeros in the words of the need.
-#[unsafe(no_mangle)]
-pub extern "C" fn muk_start(
-    table: &[u32],
-    list: &[u32],
-    store: &mut [u64],
-    kept: &mut Record,
-) -> u32
+pub fn muk_start(table: &[u32], list: &[u32], store: &mut [u64], kept: &mut Record) -> u32
     ensures { StartLeaves (setup_of table.now list.now) store.old result kept.new store.new }
 {
     let started = start_coded(table, list, store);

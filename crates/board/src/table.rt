@@ -7,8 +7,7 @@ use rules::table;
 use rules::table::Checked;
 
 // Refusals 1 to 3; or 0, and the row count and the need are written.
-#[unsafe(no_mangle)]
-pub extern "C" fn muk_check(table: &[u32], rows: &mut u32, need: &mut u64) -> u32
+pub fn muk_check(table: &[u32], rows: &mut u32, need: &mut u64) -> u32
     ensures { CheckLeaves table.now rows.old need.old result rows.new need.new }
 {
     let checked = table::check(table);

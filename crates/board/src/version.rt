@@ -7,8 +7,7 @@ ghost use Rattle.board.specs.Version.{version};
 const VERSION: u32 = 6;
 
 // The library's version.
-#[unsafe(no_mangle)]
-pub extern "C" fn muk_version() -> u32
+pub fn muk_version() -> u32
     ensures { result ≡ version }
 {
     VERSION

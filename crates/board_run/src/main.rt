@@ -4,9 +4,10 @@
 #![tactic(auto)]
 
 use call_runs::run::{run_events, run_frames};
-use libc::STDOUT_FILENO;
 use monitor::start::start;
 use soundness::record::Record;
+use std::io;
+use std::io::Stdout;
 
 // p is bit 0, q is bit 1 and the heartbeat's is bit 31 of the mask. The same rule with a kind 9 in row 2, which is refused.
 const P: u32 = 1;
@@ -35,52 +36,78 @@ const UNWRITTEN: u32 = 4_294_967_295;
 // The last time that is accepted; its low sixteen bits are all ones.
 const LIMIT: u64 = 281_474_976_710_655;
 
-fn main() {
-    say(b"-- events, one over the limit of time and one below the clock\n");
+fn main(rt: HostRuntime) -> io::Result<()> {
+    let out = rt.stdout();
+    say(
+        out,
+        "-- events, one over the limit of time and one below the clock\n",
+    )?;
     let mut space = [9; WORDS];
     let store: &mut [u64] = &mut space;
     let begun = start(&SINCE, &LAST_ROW, store);
     let kept = events(
+        out,
         &SINCE,
         &LAST_ROW,
         store,
         begun.record,
         &[1, 2, 3, LIMIT + 1, 2, 4],
         &[0, Q, P, P, P, P + Q],
-    );
+    )?;
     say(
-        b"-- on from there: by another table, by a list past the table, with an unsound clock, and as it was left\n",
-    );
-    events(&KIND_9, &LAST_ROW, store, kept, &[5, 6], &[P, P]);
-    events(&SINCE, &[3], store, kept, &[5, 6], &[P, P]);
+        out,
+        "-- on from there: by another table, by a list past the table, with an unsound clock, and as it was left\n",
+    )?;
+    events(out, &KIND_9, &LAST_ROW, store, kept, &[5, 6], &[P, P])?;
+    events(out, &SINCE, &[3], store, kept, &[5, 6], &[P, P])?;
     events(
+        out,
         &SINCE,
         &LAST_ROW,
         store,
         at_clock(kept, 9),
         &[5, 6],
         &[P, P],
-    );
-    let last = events(&SINCE, &LAST_ROW, store, kept, &[5, LIMIT - 10], &[P, Q]);
-    say(b"-- frames from there, p judged too, one a heartbeat and one over the limit of time\n");
+    )?;
+    let last = events(
+        out,
+        &SINCE,
+        &LAST_ROW,
+        store,
+        kept,
+        &[5, LIMIT - 10],
+        &[P, Q],
+    )?;
+    say(
+        out,
+        "-- frames from there, p judged too, one a heartbeat and one over the limit of time\n",
+    )?;
     frames(
+        out,
         store,
         last,
         &[65_528, 65_530, 3, 65_535],
         &[P, HEARTBEAT, P, P],
-    );
-    say(b"-- heartbeats: before any event, after two, and before two more, one refused\n");
-    begun_again(&[7], &[HEARTBEAT + P]);
-    begun_again(&[1, 2, 4], &[Q, P, HEARTBEAT + Q]);
-    begun_again(&[1, 2, 4, 3, 4], &[Q, P, HEARTBEAT + Q, P, P]);
-    say(b"-- fewer masks, fewer times, no masks, fewer places for answers\n");
-    begun_again(&[1, 2, 3, 4], &[0, Q, P]);
-    begun_again(&[1, 2], &[0, Q, P, P]);
-    begun_again(&[1, 2], &[]);
+    )?;
+    say(
+        out,
+        "-- heartbeats: before any event, after two, and before two more, one refused\n",
+    )?;
+    begun_again(out, &[7], &[HEARTBEAT + P])?;
+    begun_again(out, &[1, 2, 4], &[Q, P, HEARTBEAT + Q])?;
+    begun_again(out, &[1, 2, 4, 3, 4], &[Q, P, HEARTBEAT + Q, P, P])?;
+    say(
+        out,
+        "-- fewer masks, fewer times, no masks, fewer places for answers\n",
+    )?;
+    begun_again(out, &[1, 2, 3, 4], &[0, Q, P])?;
+    begun_again(out, &[1, 2], &[0, Q, P, P])?;
+    begun_again(out, &[1, 2], &[])?;
     begun_again(
+        out,
         &[1, 1, 1, 1, 2, 2, 2, 2, 3, 4],
         &[Q, Q, 0, 0, 0, 0, 0, Q, P, P],
-    );
+    )
 }
 
 // The record with another clock, which its spans need not fit.
@@ -90,89 +117,97 @@ fn at_clock(kept: Record, clock: u64) -> Record {
     changed
 }
 
-fn begun_again(times: &[u64], masks: &[u32]) {
+fn begun_again(out: Stdout, times: &[u64], masks: &[u32]) -> io::Result<()> {
     let mut space = [9; WORDS];
     let store: &mut [u64] = &mut space;
     let begun = start(&SINCE, &LAST_ROW, store);
-    events(&SINCE, &LAST_ROW, store, begun.record, times, masks);
+    events(out, &SINCE, &LAST_ROW, store, begun.record, times, masks)?;
+    Ok(())
 }
 
 fn events(
+    out: Stdout,
     table: &[u32],
     list: &[u32],
     store: &mut [u64],
     found: Record,
     times: &[u64],
     masks: &[u32],
-) -> Record {
+) -> io::Result<Record> {
     let mut answers = [UNWRITTEN; PLACES];
     let kept = run_events(table, list, store, found, times, masks, &mut answers);
-    told(store, kept, &answers);
-    kept
+    told(out, store, kept, &answers)?;
+    Ok(kept)
 }
 
-fn frames(store: &mut [u64], found: Record, counters: &[u16], masks: &[u32]) {
+fn frames(
+    out: Stdout,
+    store: &mut [u64],
+    found: Record,
+    counters: &[u16],
+    masks: &[u32],
+) -> io::Result<()> {
     let mut answers = [UNWRITTEN; PLACES];
     let kept = run_frames(&SINCE, &BOTH, store, found, counters, masks, &mut answers);
-    told(store, kept, &answers);
+    told(out, store, kept, &answers)
 }
 
-fn told(store: &[u64], kept: Record, answers: &[u32; PLACES]) {
-    say(b"codes");
+fn told(out: Stdout, store: &[u64], kept: Record, answers: &[u32; PLACES]) -> io::Result<()> {
+    say(out, "codes")?;
     let mut at = 0;
     while at < PLACES {
-        code_told(answers[at]);
+        code_told(out, answers[at])?;
         at += 1;
     }
-    record_told(kept);
-    words_told(store);
+    record_told(out, kept)?;
+    words_told(out, store)
 }
 
-fn code_told(code: u32) {
+fn code_told(out: Stdout, code: u32) -> io::Result<()> {
     if code != UNWRITTEN {
-        say(b" ");
-        io::print_hex(STDOUT_FILENO, code as u64, 8);
+        say(out, " ")?;
+        print!(out; "{code:08x}")?;
     }
+    Ok(())
 }
 
 // Seen, clock, last and rows; the truth, the span count and the first place of the row that is judged.
-fn record_told(kept: Record) {
+fn record_told(out: Stdout, kept: Record) -> io::Result<()> {
     let truths = kept.truths;
     let counts = kept.counts;
     let firsts = kept.firsts;
-    say(b"\n  record:");
-    byte(kept.seen);
-    number(kept.clock);
-    number(kept.last);
-    count(kept.rows);
-    byte(truths[2]);
-    count(counts[2]);
-    count(firsts[2]);
+    say(out, "\n  record:")?;
+    byte(out, kept.seen)?;
+    number(out, kept.clock)?;
+    number(out, kept.last)?;
+    count(out, kept.rows)?;
+    byte(out, truths[2])?;
+    count(out, counts[2])?;
+    count(out, firsts[2])
 }
 
-fn words_told(store: &[u64]) {
-    say(b"\n  store:");
+fn words_told(out: Stdout, store: &[u64]) -> io::Result<()> {
+    say(out, "\n  store:")?;
     let mut at = 0;
     while at < store.len() {
-        number(store[at]);
+        number(out, store[at])?;
         at += 1;
     }
-    say(b"\n");
+    say(out, "\n")
 }
 
-fn byte(n: u8) {
-    number(n as u64);
+fn byte(out: Stdout, n: u8) -> io::Result<()> {
+    number(out, n as u64)
 }
 
-fn count(n: u32) {
-    number(n as u64);
+fn count(out: Stdout, n: u32) -> io::Result<()> {
+    number(out, n as u64)
 }
 
-fn number(n: u64) {
-    say(b" ");
-    io::print_decimal(STDOUT_FILENO, n);
+fn number(out: Stdout, n: u64) -> io::Result<()> {
+    print!(out; " {n}")
 }
 
-fn say(text: &[u8]) {
-    io::write_all(STDOUT_FILENO, text);
+fn say(out: Stdout, text: &str) -> io::Result<()> {
+    print!(out; "{text}")
 }

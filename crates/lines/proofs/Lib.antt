@@ -5,6 +5,5 @@ pub mod WriteLaws
 pub mod LineLaws
 pub mod LinesLaws
 pub mod ListLaws
-pub mod ReadLaws
 pub mod AgreeLaws
 pub mod Outcomes

@@ -1,4 +1,4 @@
--- Row numbers on a line: how many there can be, one turn of reading them, and the answer once it is known what the line is.
+-- Row numbers on a line: how many there can be, one turn of reading them, and the place past a list line or a rule line.
 use mathlib.Core.Bool.{◌&&◌}
 use mathlib.Core.List.{List, [], ◌∷◌, ◌++◌}
 use mathlib.Core.Path.{◌≡◌, refl, sym, ap, ◌∙◌}
@@ -9,17 +9,11 @@ use lib.Dec.{leb}
 use lib.ListN.{length, get_or, set, replicate, length-replicate}
 use lib.Seq.{set_at, take_at, append_snoc}
 use Rattle.meaning.proofs.Truths.{by_test}
-use Rattle.row_list.specs.declared.list.RowList.{RowList}
 use Rattle.row_list.specs.RowList.{list_limit}
-use Rattle.lines.specs.declared.line.LineFound.{LineFound}
-use Rattle.lines.specs.declared.line.LineFound.TheVariants as line
-use Rattle.lines.specs.declared.line.LineRead.{LineRead}
-use Rattle.lines.specs.declared.list.ListFound.{ListFound}
-use Rattle.lines.specs.declared.list.ListFound.TheVariants.{End, Rows, Refused}
 use Rattle.lines.specs.Digits.{byte_digits, digits_at, hex_at}
-use Rattle.lines.specs.Line.{past_line_feed, digits_of, next_place}
-use Rattle.lines.specs.Read.{LineReply, Read, bytes_of, line_reply, numbers_read}
-use Rattle.lines.specs.ListLine.{list_marked, mark_bytes, list_count, list_at, rows_at, read_list, numbers_of, list_of, list_found, rows_said, ReadsList}
+use Rattle.lines.specs.Line.{past_line_feed, digits_of}
+use Rattle.lines.specs.Read.{bytes_of, numbers_read}
+use Rattle.lines.specs.ListLine.{list_marked, mark_bytes, list_count, list_at, rows_at, read_list, numbers_of, list_of}
 use Rattle.lines.specs.Rule.{rule_widths, read_rule}
 use Rattle.lines.proofs.DigitLaws.{digits_at-most}
 use Rattle.lines.proofs.LineLaws.{next_past}
@@ -82,32 +76,6 @@ module _ (text : List ℕ) (place : ℕ) where
 
   pub rows-done : (count : ℕ) → record { rows = rows_done count; count = count } ≡ list_of (rows_at text place count)
   rows-done count = rw rows_length
-
-  abbrev pub found_of : LineFound → ListFound
-  found_of line.End = End
-  found_of line.Good = Rows
-  found_of (line.Refused r) = Refused r
-
-  -- The answer, and the list that goes with it.
-  pub reads_known : (r : LineRead) (count : ℕ) (found : LineFound) (list : RowList) → count ≡ list_count text place
-      → r.line ≡ list_at text place → r.next ≡ next_place r.line text place (mark_bytes + count) → r.line ≡ found
-      → list ≡ list_of (rows_said (line_reply found (rows_at text place count)))
-      → ReadsList text place (record { found = found_of found; list = list; next = r.next })
-  reads_known r count found list counted is next known held =
-      let said : list_at text place ≡ found = sym is ∙ known in
-      record {
-        said = rw (said, next, known, ← counted, held) (ap moved (numbers found));
-        list = rw (said, ← counted) held;
-      }
-    where
-      moved : LineReply → Read
-      moved said = record { said = said; next = next_place found text place (mark_bytes + count) }
-
-      numbers : (line : LineFound) → list_found (found_of line) (numbers_of (list_of (rows_said (line_reply line (rows_at text place count)))))
-          ≡ line_reply line (rows_at text place count)
-      numbers line.End = refl
-      numbers line.Good = rw (numbers_of_list (rows_at text place count))
-      numbers (line.Refused r) = refl
 
 -- After any list line, and any line read for a rule, the next place is past its first line feed.
 module _ (text : List ℕ) (place : ℕ) (within : place < length text) where

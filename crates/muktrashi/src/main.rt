@@ -8,8 +8,8 @@ ghost use Rattle.text.specs.Replies.{longest_reply, Wrote};
 ghost use Rattle.text.specs.Feed.{text_end};
 ghost use Rattle.muktrashi.specs.Loop.{Lends, ReadyForWhole, TakenWhole, Looped};
 
-use libc::{STDIN_FILENO, STDOUT_FILENO};
 use rules::limits::{ROW_LIMIT, ROW_NUMBERS};
+use std::io::{Read, Stdin, Stdout, Write};
 use text::feed::{Fed, finish, step};
 use text::replies::LONGEST_REPLY;
 use text::state::{State, fresh};
@@ -22,12 +22,19 @@ const PIECE_BYTES: usize = 4096;
 // Room for a line a byte, so that every piece is taken whole.
 const OUTPUT_BYTES: usize = PIECE_BYTES * LONGEST_REPLY;
 
-fn main() {
+fn main(rt: HostRuntime) {
     let mut table = [0u32; ROW_LIMIT * ROW_NUMBERS];
     let mut store = [0u64; STORE_WORDS];
     let mut piece = [0u8; PIECE_BYTES];
     let mut out = [0u8; OUTPUT_BYTES];
-    run(&mut table, &mut store, &mut piece, &mut out);
+    run(
+        rt.stdin(),
+        rt.stdout(),
+        &mut table,
+        &mut store,
+        &mut piece,
+        &mut out,
+    );
 }
 
 // The state that the loop ends in, how many pieces it took, and whether it ended at the text's end.
@@ -39,19 +46,26 @@ struct Ran {
 }
 
 // A proved loop has to end, and nothing says that a text does: it counts its turns, up to a number that no run reaches.
-fn run(table: &mut [u32], store: &mut [u64], piece: &mut [u8], out: &mut [u8]) -> Ran
+fn run(
+    stdin: Stdin,
+    stdout: Stdout,
+    table: &mut [u32],
+    store: &mut [u64],
+    piece: &mut [u8],
+    out: &mut [u8],
+) -> Ran
     requires { Lends table.old store.old piece.old out.old }
     ensures { Looped table.old result table.new store.new out.new }
 {
     let mut state = fresh();
     let mut turns = 0;
     while turns < u64::MAX {
-        let got = libc::read(STDIN_FILENO, piece);
-        let n = io::count(got, piece);
+        let n = bytes_read(stdin, piece);
         if n == 0 {
-            end(state, out);
+            let State { held, stage } = state;
+            end(stdout, State { held, stage }, out);
             return Ran {
-                state,
+                state: State { held, stage },
                 turns,
                 ended: true,
             };
@@ -61,7 +75,7 @@ fn run(table: &mut [u32], store: &mut [u64], piece: &mut [u8], out: &mut [u8]) -
         state = left;
         turns += 1;
         let wrote = fed.wrote;
-        if !io::write_all(STDOUT_FILENO, &out[..wrote]) {
+        if !took_all(stdout, &out[..wrote]) {
             return Ran {
                 state,
                 turns,
@@ -92,12 +106,27 @@ fn take_whole(
 }
 
 // A read that ends, or fails, is the text's end. How many bytes it brings, from the output's start.
-fn end(state: State, out: &mut [u8]) -> usize
+fn end(stdout: Stdout, state: State, out: &mut [u8]) -> usize
     requires { longest_reply ≤ length out.old }
     ensures { Wrote out.old 0 (text_end state) result out.new }
 {
     let finished = finish(state, out);
     let wrote = finished.wrote;
-    io::write_all(STDOUT_FILENO, &out[..wrote]);
+    took_all(stdout, &out[..wrote]);
     wrote
+}
+
+// How many bytes of standard input a read brings, as soon as some are there. One that ends, or fails, brings none.
+fn bytes_read(mut stdin: Stdin, piece: &mut [u8]) -> usize
+    ensures { result ≤ length piece.new }
+{
+    match stdin.read(piece) {
+        Ok(n) => n,
+        Err(_) => 0,
+    }
+}
+
+// Whether standard output took all of the text. After a write that fails it may have taken some of it.
+fn took_all(mut stdout: Stdout, text: &[u8]) -> bool {
+    stdout.write_all(text).is_ok()
 }

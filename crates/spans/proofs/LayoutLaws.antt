@@ -7,7 +7,7 @@ use native.Mathlib.Numerals.{add-one}
 use native.Mathlib.Omega.{arith}
 use borrow.Author.Tests.{eqb-true, eqb-false, le-ltb, le-leb}
 use lib.Dec.{eqb, ltb, leb}
-use lib.ListN.{length, take, drop, replicate, length-append, length-drop, length-replicate, replicate-append-replicate, take-append-drop}
+use lib.ListN.{length, get_or, take, drop, replicate, length-append, length-drop, length-replicate, replicate-append-replicate, take-append-drop}
 use lib.Seq.{drop-append-add, drop_at, drop-cons, drop-drop, take_all, take_at}
 use Rattle.meaning.specs.Interval.{End, up_to, no_end}
 use Rattle.meaning.specs.Computed.{not_past?}
@@ -18,6 +18,7 @@ use Rattle.spans.specs.Layout.{
   word_of,
   end_at,
   places_of,
+  place_at,
   span_at,
   spans_from,
   round_from,
@@ -30,7 +31,7 @@ use Rattle.spans.specs.Layout.{
   freed,
 }
 use Rattle.spans.specs.Stretch.{Inside, Overwrites, SpansWritten}
-use Rattle.spans.proofs.RoundLaws.{places_fit, places_whole, length_round}
+use Rattle.spans.proofs.RoundLaws.{places_fit, places_whole, length_round, round_get}
 
 -- By cases: the word is the mark, or the end is the word itself.
 pub end_cases : (P : End → Type 0) (word : ℕ) → (word ≡ mark → P no_end) → (¬ (word ≡ mark) → P (up_to word)) → P (end_at word)
@@ -188,6 +189,13 @@ pub held-written : (words : List ℕ) (held : Held) → Inside words held → Sp
 held-written words held inside =
     read-written (round_from held.first words) held.count
     (rw (length_round held.first words) (omega (arith, inside.1, places_fit (length words))))
+
+-- The last word of the i-th span read is the one at its place.
+pub last_read : (words : List ℕ) (held : Held) (i place : ℕ) → Inside words held → i < held.count → place ≡ place_at (places_of (length words)) held.first i
+    → get_or (round_from held.first words) (2 * i + 1) 0 ≡ get_or words (2 * place + 1) 0
+last_read words held i place inside fewer at =
+    let whole : 2 * places_of (length words) ≡ length words = places_whole (length words) (omega arith) in
+    round_get words (places_of (length words)) held.first i whole (omega arith) (omega arith) 1 (omega arith) refl (omega (arith, at))
 
 -- With zeros after them, they are what the spans lay out.
 pub read-laid : (words : List ℕ) (held : Held) → Inside words held

@@ -15,6 +15,7 @@ use Rattle.lines.specs.Digits.{byte_at, overwritten}
 use Rattle.lines.specs.Line.{line_feed}
 use Rattle.text.specs.Replies.{longest_reply, Wrote}
 use Rattle.text.specs.declared.state.Held.{Held}
+use Rattle.text.specs.declared.state.Stage.{Stage}
 use Rattle.text.specs.declared.state.State.{State}
 use Rattle.text.specs.declared.turn.Told.{Told}
 use Rattle.text.specs.Held.{held_line, holding, emptied}
@@ -43,7 +44,7 @@ owing_none whole before m out used wrote o =
     let end : wrote + 0 ≡ length whole.text = o.bytes-written in (
       o.left,
       omega arith,
-      record { place_after_lem = omega arith; bytes = sym (over_none out wrote) ∙ o.text },
+      record { place_after = omega arith; bytes = sym (over_none out wrote) ∙ o.text },
     )
 
 -- What is ready, and what is not: it is left as it is.
@@ -93,7 +94,7 @@ owing_on : (whole : Feeding) (before : List ℕ) (m : Memory) (piece out : List 
     → Owing whole before (feed (byte_leaves m (byte_at piece used)) (length out' - wrote') (drop (used + 1) piece)) out' (used + 1) wrote'
 owing_on whole before m piece out used wrote out' wrote' o more free w same =
     let text : List ℕ = byte_text m (byte_at piece used) in
-    let at : wrote' ≡ wrote + length text = w.place_after_lem in
+    let at : wrote' ≡ wrote + length text = w.place_after in
     let room : length out' - wrote' ≡ length out - wrote - length text = omega arith in
     let rest : Feeding = feed (byte_leaves m (byte_at piece used)) (length out - wrote - length text) (drop (used + 1) piece) in
     let now : Owing whole before (and_then text rest) out used wrote = rw (feed-more m (length out - wrote) piece used more free) at o in
@@ -127,6 +128,10 @@ pub step_rows : (m : Memory) (room : ℕ) (piece : List ℕ)
 unfolding piece_fed
 step_rows m room piece most =
     by_test (ready? m) (λ ready. rw ready (feed-rows m room piece most)) (λ not. rw not most)
+
+-- What there is between two bytes.
+abbrev pub between : Held → Stage → List ℕ → List ℕ → Memory
+between held stage table store = record { held = held; desk = desk stage table store }
 
 -- What holds from turn to turn of the loop.
 pub record Going (first : Memory) (piece before : List ℕ) (m : Memory) (out : List ℕ) (used wrote : ℕ) : Type 0 where
@@ -208,7 +213,7 @@ module _
         rw (test, empty, turned.left, is) in
         let text : byte_text m (byte_at piece used) ≡ turn.text = rw (test, is) in
         let wrote-line : Wrote out wrote (byte_text m (byte_at piece used)) told.place after = rw text turned.wrote in
-        let place : told.place ≡ wrote + length turn.text = turned.wrote.place_after_lem in
+        let place : told.place ≡ wrote + length turn.text = turned.wrote.place_after in
         let same_length : length (overwritten out wrote turn.text) ≡ length out = sym (ap length turned.wrote.bytes) ∙ same_out in
         let fits : wrote + length turn.text ≤ length out = over_fits out wrote going.wrote-within turn.text same_length in
         let stage : told.stage.rows ≡ turn.left.stage.rows = ap (λ (d : Desk). d.stage.rows) turned.left in

@@ -15,7 +15,7 @@ one_state r r' is is' = is ∙ sym is'
 -- What is written, and the place after it.
 one_writing : (out : List ℕ) (place : ℕ) (line : List ℕ) (next next' : ℕ) (after after' : List ℕ)
     → Wrote out place line next after → Wrote out place line next' after' → (next ≡ next') × (after ≡ after')
-one_writing out place line next next' after after' w w' = (w.place_after_lem ∙ sym w'.place_after_lem, w.bytes ∙ sym w'.bytes)
+one_writing out place line next next' after after' w w' = (w.place_after ∙ sym w'.place_after, w.bytes ∙ sym w'.bytes)
 
 -- `text::feed::step`.
 pub record SameStep (fed fed' : Fed) (table table' store store' after after' : List ℕ) : Type 0 where

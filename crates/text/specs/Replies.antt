@@ -51,5 +51,5 @@ longest_reply = time_digits + verdict_digits + 1
 
 -- A line is written at a place, over what is there; the next place is the one after it.
 pub record Wrote (out : List ℕ) (place : ℕ) (line : List ℕ) (next : ℕ) (after : List ℕ) : Type 0 where
-  pub place_after_lem : next ≡ place + length line
+  pub place_after : next ≡ place + length line
   pub bytes : after ≡ overwritten out place line

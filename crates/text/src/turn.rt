@@ -288,7 +288,7 @@ fn frame_line(
     place: usize,
 ) -> Told
     requires room { Room stage table.now out.old place }
-    requires part_value { stage.part ≡ Part.Frames }
+    requires among_frames { stage.part ≡ Part.Frames }
     ensures { Turned (frame_turn (read_frame line.now 0).said)
         stage table.now store.old out.old place
         result table.now store.new out.new }

@@ -1,7 +1,6 @@
 -- `codes::code::refusal_code` meets its contract. A refusal's number is small enough for the code to fit. Assumes nothing.
 use Prim.Native.Nat.{◌<◌}
 use native.Mathlib.Omega.{arith}
-use borrow.Author.Rules.{rules}
 use Rattle.codes.specs.Code.{number_room}
 use Rattle.codes.proofs.CodeLaws.{numbered}
 use Rattle.codes.proofs.code.refusal_code.Goals as goal

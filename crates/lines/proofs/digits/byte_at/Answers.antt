@@ -1,6 +1,5 @@
 -- `lines::digits::byte_at` meets its contract: past the end `get_or` reads 0. Assumes nothing.
 use native.Mathlib.Omega.{arith}
-use borrow.Author.Rules.{rules}
 use Prim.Native.Nat.{◌+◌, ◌≤◌}
 use mathlib.Core.Path.{sym}
 use lib.ListN.{length, get_or-eq_default}

@@ -1,5 +1,4 @@
 -- `lines::digits::digit_byte` meets its contract. Assumes nothing.
-use borrow.Author.Rules.{rules}
 use borrow.Author.Tests.{lt-ltb, le-ltb}
 use Rattle.lines.specs.Digits.{digit_byte}
 use Rattle.lines.proofs.digits.digit_byte.Goals as goal

@@ -1,12 +1,8 @@
 -- `lines::digits::digits_at` meets its contract. The loop: the count of the whole is what is counted, and the count of the rest.
 -- The measure is what is left of n. Assumes nothing.
-use mathlib.Core.Path.{◌≡◌, sym, ap, ◌∙◌}
+use mathlib.Core.Path.{◌≡◌}
 use Prim.Native.Nat.{◌+◌, ◌-◌, ◌≤◌}
-use native.Mathlib.Nat.{add-zero, zero-add, sub-zero}
-use native.Mathlib.Omega.{arith}
-use borrow.Author.Rules.{rules}
-use Rattle.lines.specs.Digits.{byte_at, is_digit, digits_at}
-use Rattle.lines.proofs.DigitLaws.{count_digit, count-ends}
+use Rattle.lines.specs.Digits.{digits_at}
 use Rattle.lines.proofs.digits.digits_at.Given as goal
 
 abbrev pub invariant-loop-count : goal.invariant-loop-count

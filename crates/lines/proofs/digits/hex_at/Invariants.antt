@@ -1,12 +1,8 @@
 -- `lines::digits::hex_at` meets its contract. The loop: the value is that of the digits passed. The measure is what is left of n.
 -- Assumes nothing.
-use mathlib.Core.Path.{◌≡◌, refl, ap, ◌∙◌}
-use Prim.Native.Nat.{◌+◌, ◌-◌, ◌^◌, ◌≤◌, ◌<◌}
-use native.Mathlib.Numerals.{add-one}
-use native.Mathlib.Omega.{arith}
-use borrow.Author.Rules.{rules}
-use Rattle.lines.specs.Digits.{byte_at, digit_value, hex_at}
-use Rattle.lines.proofs.DigitLaws.{digit_value-below, hex_at-fits}
+use mathlib.Core.Path.{◌≡◌}
+use Prim.Native.Nat.{◌+◌, ◌-◌, ◌≤◌}
+use Rattle.lines.specs.Digits.{hex_at}
 use Rattle.lines.proofs.digits.hex_at.Given as goal
 
 abbrev pub invariant-loop-count : goal.invariant-loop-count

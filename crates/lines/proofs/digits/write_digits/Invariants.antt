@@ -1,16 +1,9 @@
 -- `lines::digits::write_digits` meets its contract. The loop: the digits that are left, written over what is there, are all the digits
 -- written over what was there at entry. The measure is what is left. Assumes nothing.
-use mathlib.Core.Bool.{true, false}
-use mathlib.Core.List.{List}
-use mathlib.Core.Path.{◌≡◌, refl, sym, ap, ◌∙◌}
-use Prim.Native.Nat.{ℕ, suc, ◌+◌, ◌-◌, ◌≤◌, ◌<◌}
-use native.Mathlib.Nat.{mod-lt}
-use native.Mathlib.Omega.{arith}
-use borrow.Author.Tests.{le-leb, lt-leb}
-use lib.Dec.{leb, lit<}
-use lib.ListN.{length, length-set}
-use Rattle.lines.specs.Digits.{DigitsWritten}
-use Rattle.lines.proofs.WriteLaws.{left_over, left_over_lem, store_digit, none_left}
+use mathlib.Core.Path.{◌≡◌}
+use Prim.Native.Nat.{◌≤◌}
+use lib.ListN.{length}
+use Rattle.lines.proofs.WriteLaws.{left_over}
 use Rattle.lines.proofs.digits.write_digits.Given as goal
 
 abbrev pub invariant-loop-left : goal.invariant-loop-left

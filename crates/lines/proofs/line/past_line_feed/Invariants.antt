@@ -1,11 +1,9 @@
 -- `lines::line::past_line_feed` meets its contract. The loop: the answer from here is the answer from the place. The measure is what is
 -- left of the text. Assumes nothing.
-use mathlib.Core.Path.{◌≡◌, refl, sym, ◌∙◌}
+use mathlib.Core.Path.{◌≡◌}
 use Prim.Native.Nat.{◌-◌}
-use native.Mathlib.Omega.{arith}
 use lib.ListN.{length}
 use Rattle.lines.specs.Line.{past_line_feed}
-use Rattle.lines.proofs.LineLaws.{past-found, past-other, past_end}
 use Rattle.lines.proofs.line.past_line_feed.Given as goal
 
 abbrev pub invariant-loop-next : goal.invariant-loop-next

@@ -1,6 +1,5 @@
 -- `lines::line::read_line` meets its contract: its tests are the definition's, in the same order. Assumes nothing.
-use mathlib.Core.Path.{refl}
-use borrow.Author.Rules.{rules}
+use Rattle.std.proofs.Common.{refl}
 use borrow.Author.Tests.{le-leb, lt-leb, eq-eqb, ne_eqb}
 use Rattle.lines.specs.Line.{line_at}
 use Rattle.lines.proofs.line.read_line.Goals as goal
@@ -11,8 +10,7 @@ returns-then-text-place c = (rw (le-leb _ _ c.if-text-place.true), refl)
 
 pub returns-then-sum_at-hex_at : goal.returns-then-sum_at-hex_at
 unfolding line_at
-returns-then-sum_at-hex_at c =
-    (
+returns-then-sum_at-hex_at c = (
   rw (
     lt-leb _ _ c.if-text-place.false,
     ← c.right_at.ensures,
@@ -26,8 +24,7 @@ returns-then-sum_at-hex_at c =
 
 pub returns-then-right_at-digits : goal.returns-then-right_at-digits
 unfolding line_at
-returns-then-right_at-digits c =
-    (
+returns-then-right_at-digits c = (
   rw (
     lt-leb _ _ c.if-text-place.false,
     ← c.right_at.ensures,
@@ -36,13 +33,12 @@ returns-then-right_at-digits c =
     ← c.hex_at.ensures,
     ne_eqb _ _ c.if-sum_at-hex_at.false,
   ),
-  c.past_line_feed_lem.ensures,
+  c.past_line_feed.ensures,
 )
 
 pub returns : goal.returns
 unfolding line_at
-returns c =
-    (
+returns c = (
   rw (lt-leb _ _ c.if-text-place.false, ← c.right_at.ensures, ne_eqb _ _ c.if-right_at-digits.false),
   c.past_line_feed-2.ensures,
 )

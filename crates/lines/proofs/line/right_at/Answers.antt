@@ -1,5 +1,4 @@
 -- `lines::line::right_at` meets its contract: its tests are the definition's. Assumes nothing.
-use borrow.Author.Rules.{rules}
 use borrow.Author.Tests.{eq-eqb, ne_eqb}
 use Rattle.lines.specs.Line.{right_at}
 use Rattle.lines.proofs.line.right_at.Goals as goal

@@ -1,12 +1,8 @@
 -- `lines::line::sum_at` meets its contract. The loop: the sum is that of the bytes passed. The measure is what is left of n.
 -- Assumes nothing.
-use mathlib.Core.Path.{◌≡◌, refl, ◌∙◌}
-use Prim.Native.Nat.{◌+◌, ◌-◌, ◌*◌, ◌≤◌}
-use native.Mathlib.Numerals.{add-one}
-use native.Mathlib.Omega.{arith}
+use mathlib.Core.Path.{◌≡◌}
+use Prim.Native.Nat.{◌-◌, ◌≤◌}
 use Rattle.lines.specs.Line.{sum_at}
-use Rattle.lines.proofs.DigitLaws.{hex_at-below}
-use Rattle.lines.proofs.LineLaws.{sum_at-most}
 use Rattle.lines.proofs.line.sum_at.Given as goal
 
 abbrev pub invariant-loop-count : goal.invariant-loop-count

@@ -1,5 +1,4 @@
 -- `lines::list::is_list_line` meets its contract: its tests are the definition's. Assumes nothing.
-use borrow.Author.Rules.{rules}
 use borrow.Author.Tests.{eq-eqb, ne_eqb}
 use native.Mathlib.Nat.{add-zero}
 use Rattle.lines.specs.ListLine.{list_marked}

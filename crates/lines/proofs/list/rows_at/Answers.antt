@@ -1,9 +1,8 @@
 use mathlib.Core.Path.{◌≡◌, refl}
-use Prim.Native.Nat.{◌-◌, ◌≤◌}
 use native.Mathlib.Omega.{arith}
 use lib.Dec.{lit≤}
 use Rattle.lines.proofs.DigitLaws.{hex_at-fits}
-use Rattle.lines.proofs.ListLaws.{rows_done, store-row, rows-done}
+use Rattle.lines.proofs.ListLaws.{store-row, rows-done}
 use Rattle.lines.proofs.list.rows_at.Goals as goal
 
 pub loop-done-init : goal.loop-done-init

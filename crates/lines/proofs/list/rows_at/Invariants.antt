@@ -1,11 +1,8 @@
 -- `lines::list::rows_at` meets its contract. The loop: the first rows are the numbers passed, the others 0. The measure is what is left of the count.
 -- Assumes nothing.
-use mathlib.Core.Path.{◌≡◌, refl}
+use mathlib.Core.Path.{◌≡◌}
 use Prim.Native.Nat.{◌-◌, ◌≤◌}
-use native.Mathlib.Omega.{arith}
-use lib.Dec.{lit≤}
-use Rattle.lines.proofs.DigitLaws.{hex_at-fits}
-use Rattle.lines.proofs.ListLaws.{rows_done, store-row, rows-done}
+use Rattle.lines.proofs.ListLaws.{rows_done}
 use Rattle.lines.proofs.list.rows_at.Given as goal
 
 abbrev pub invariant-loop-done : goal.invariant-loop-done

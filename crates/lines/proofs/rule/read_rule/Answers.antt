@@ -1,38 +1,20 @@
--- `lines::rule::read_rule` meets its contract: what was read of the line decides, and a good line's numbers stand at their offsets.
--- Assumes nothing.
+-- `lines::rule::read_rule` meets its contract: what was read of the line decides, and a good line's numbers stand at their offsets,
+-- of as many digits as their types hold. Assumes nothing.
 use lib.Dec.{lit≤}
-use borrow.Author.Rules.{rules}
-use Rattle.lines.specs.Rule.{rule_widths}
 use Rattle.lines.proofs.DigitLaws.{hex_at-fits}
-use Rattle.lines.proofs.ReadLaws.{read_known}
 use Rattle.lines.proofs.rule.read_rule.Goals as goal
 
-pub returns-then-is_list_line : goal.returns-then-is_list_line
-returns-then-is_list_line c = rw (← c.is_list_line.ensures, c.if-is_list_line.true, c.past_line_feed_lem.ensures)
+pub overflow_cast-result : goal.overflow_cast-result
+overflow_cast-result c = record { fits = hex_at-fits _ 8 _ _ _ (lit≤ tt) c.hex_at.ensures }
 
-pub returns-in-End : goal.returns-in-End
-returns-in-End c =
-    let at = c in
-    rw (← at.is_list_line.ensures, at.if-is_list_line.false)
-    (read_known rule_widths _ _ at.read_line-read.result _ at.read_line-read.ensures.0 at.read_line-read.ensures.1 c.enum_told-1.given.1)
+pub overflow_cast-result-in-Good : goal.overflow_cast-result-in-Good
+overflow_cast-result-in-Good c = record { fits = hex_at-fits _ 8 _ _ _ (lit≤ tt) c.hex_at-in-Good.ensures }
 
-pub returns-in-Good : goal.returns-in-Good
-returns-in-Good c =
-    let at = c in
-    rw (
-      ← at.is_list_line.ensures,
-      at.if-is_list_line.false,
-      c.hex_at.ensures,
-      c.hex_at-in-Good.ensures,
-      c.hex_at-in-Good-2.ensures,
-      c.hex_at-in-Good-3.ensures,
-      c.hex_at-in-Good-4.ensures,
-    )
-    (read_known rule_widths _ _ at.read_line-read.result _ at.read_line-read.ensures.0 at.read_line-read.ensures.1
-    c.enum_told-in-Good-1.given.1)
+pub overflow_cast-result-in-Good-2 : goal.overflow_cast-result-in-Good-2
+overflow_cast-result-in-Good-2 c = record { fits = hex_at-fits _ 8 _ _ _ (lit≤ tt) c.hex_at-in-Good-2.ensures }
 
-pub returns-in-Refused : goal.returns-in-Refused
-returns-in-Refused c =
-    let at = c in
-    rw (← at.is_list_line.ensures, at.if-is_list_line.false)
-    (read_known rule_widths _ _ at.read_line-read.result _ at.read_line-read.ensures.0 at.read_line-read.ensures.1 c.line-1.given.1)
+pub overflow_cast-result-in-Good-3 : goal.overflow_cast-result-in-Good-3
+overflow_cast-result-in-Good-3 c = record { fits = hex_at-fits _ 8 _ _ _ (lit≤ tt) c.hex_at-in-Good-3.ensures }
+
+pub overflow_cast-result-in-Good-4 : goal.overflow_cast-result-in-Good-4
+overflow_cast-result-in-Good-4 c = record { fits = hex_at-fits _ 8 _ _ _ (lit≤ tt) c.hex_at-in-Good-4.ensures }

@@ -1,52 +1,53 @@
 -- `monitor::event::judge_row` meets its contract: the laws of one row, of one that owns a stretch and of one that does not. Assumes nothing.
-use mathlib.Core.Path.{sym, ◌∙◌}
-use native.Mathlib.Omega.{arith}
-use borrow.Author.Rules.{rules}
-use Rattle.monitor.proofs.RowLaws.{StretchRead, ends-within, stretch-ready, stretch-count, stretch-first, stretch-judged, plain-judged}
+use Rattle.std.proofs.Common.{Bool, true, not, List, ℕ, ◌≡◌, sym, ◌∙◌}
+use Rattle.kinds.specs.Kinds.{owns_stretch, columns_of}
+use Rattle.kinds.specs.declared.stretch.Stretch.{Stretch}
+use Rattle.rules.specs.Rows.{rule_of, kept_by, feeder, taken}
+use Rattle.rules.specs.declared.numbers.Numbers.{Numbers}
+use Rattle.row_list.specs.Truths.{truth_at}
+use Rattle.monitor.proofs.RowLaws.{StretchRead, stretch-ready, stretch-count, stretch-first, stretch-judged, plain-judged}
 use Rattle.monitor.proofs.event.judge_row.Goals as goal
 
 -- The row owns a stretch.
 
-abbrev columns_of : tie.After-feeds → tie.After-columns
-columns_of c = c
+names : {truths : List ℕ} {n : Numbers} {columns : Stretch} {owned keep feed : Bool}
+    → owned ≡ owns_stretch n.kind
+    → owned ≡ true
+    → columns ≡ columns_of (rule_of n)
+    → keep ≡ kept_by true (truth_at truths) n columns.keep
+    → feed ≡ taken not columns.when (truth_at truths (feeder columns.feed n))
+    → StretchRead truths n columns keep feed
+names told owned columns_are kept fed = record { owned = sym told ∙ owned; columns_are = columns_are; kept = kept; fed = fed }
 
-abbrev words_of : tie.After-feeds → tie.After-words
-words_of c = (columns_of c)
+pub judge_stretch-updated-requires-clause-update_ready : goal.judge_stretch-updated-requires-clause-update_ready
+judge_stretch-updated-requires-clause-update_ready c =
+    stretch-ready c.requires c.words.ensures
+    (names c.is_owned.ensures c.if-is_owned.true c.columns-columns.ensures c.keeps-keep.ensures c.feeds-feed.ensures)
 
-names : (c : tie.After-feeds)
-    → StretchRead (words_of c).args.truths.now (words_of c).args.numbers (columns_of c).columns-columns.result
-    c.keeps-keep.result c.feeds-feed.result
-names c =
+pub overflow_cast-result : goal.overflow_cast-result
+overflow_cast-result c =
     record {
-      owned = sym (columns_of c).is_owned.ensures ∙ (columns_of c).if-is_owned.true;
-      columns_are = (columns_of c).columns-columns.ensures;
-      kept = c.keeps-keep.ensures;
-      fed = c.feeds-feed.ensures;
+      fits =
+          stretch-count c.requires c.words.ensures
+          (names c.is_owned.ensures c.if-is_owned.true c.columns-columns.ensures c.keeps-keep.ensures c.feeds-feed.ensures)
+          c.judge_stretch-updated.ensures;
     }
 
-pub overflow_add-end : goal.overflow_add-end
-overflow_add-end c = omega (arith, ends-within c.requires c.words.ensures)
-
-pub judge_stretch-updated-requires : goal.judge_stretch-updated-requires
-judge_stretch-updated-requires c =
-    let w = words_of c in
-    let ready = w.pre in
-    (ready.early, stretch-ready ready w.words.ensures (names c))
+pub overflow_cast-result-then-is_owned : goal.overflow_cast-result-then-is_owned
+overflow_cast-result-then-is_owned c =
+    record {
+      fits =
+          stretch-first c.requires c.words.ensures
+          (names c.is_owned.ensures c.if-is_owned.true c.columns-columns.ensures c.keeps-keep.ensures c.feeds-feed.ensures)
+          c.judge_stretch-updated.ensures;
+    }
 
 pub returns-then-is_owned : goal.returns-then-is_owned
 returns-then-is_owned c =
-    let j = c in
-    let t = j in
-    let w = words_of t in
-    stretch-judged w.pre w.words.ensures (names t) j.judge_stretch-updated.ensures c.taken.ensures
-
-pub judge_plain-requires : goal.judge_plain-requires
-judge_plain-requires c =
-    let w = c in
-    (sym c.is_owned.ensures ∙ c.if-is_owned.false, w.requires.x-listed, w.requires.y-listed)
+    stretch-judged c.requires c.words.ensures
+    (names c.is_owned.ensures c.if-is_owned.true c.columns-columns.ensures c.keeps-keep.ensures c.feeds-feed.ensures)
+    c.judge_stretch-updated.ensures c.taken.ensures
 
 pub returns : goal.returns
 returns c =
-    let b = c in
-    let w = b in
-    plain-judged w.requires w.words.ensures (sym b.is_owned.ensures ∙ c.if-is_owned.false) (c.judge_plain.ensures _)
+    plain-judged c.requires c.words.ensures (sym c.is_owned.ensures ∙ c.if-is_owned.false) (c.judge_plain.ensures _)

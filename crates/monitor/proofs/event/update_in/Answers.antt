@@ -15,16 +15,16 @@ pub returns : goal.returns
 returns c =
     let start = c in
     let args = start.args in
-    let part = stretch_in args.from args.end args.store-1.now in
+    let part = stretch_in args.from args.end args.store.now in
     let span = args.first to end_at args.last in
-    let size : length part ≡ args.end - args.from = mid_len args.from args.end args.store-1.now start.requires.inside in
-    let S = update_in args.from args.end args.store-1.now args.held args.keep args.feed args.time span in
+    let size : length part ≡ args.end - args.from = mid_len args.from args.end args.store.now start.requires.inside in
+    let S = update_in args.from args.end args.store.now args.held args.keep args.feed args.time span in
     let room : length S ≤ places_of (length part) = rw size start.requires.room in
     let done = c.update.ensures in
     let laid = update-laid part args.held start.requires.laid args.keep args.feed args.time span room done in
     let placed = update-placed part args.held start.requires.laid args.keep args.feed args.time span room done in
     record {
-      written = rw (Post-is args.from args.end args.store-1.now start.requires.order, laid_ring laid, size);
+      written = rw (Post-is args.from args.end args.store.now start.requires.order, laid_ring laid, size);
       counted = laid.counted;
       placed = placed ∙ rw size refl;
       told = update-told part args.held start.requires.laid args.keep args.feed args.time span room done start.requires.rises;

@@ -1,5 +1,4 @@
 -- `monitor::step::event` meets its contract: what `judge` leaves in the arrays, put into the record. Assumes nothing.
-use borrow.Author.Rules.{rules}
 use Rattle.monitor.proofs.StepLaws.{step_given}
 use Rattle.monitor.proofs.step.event.Goals as goal
 

@@ -1,6 +1,5 @@
 -- `monitor::step::judge` meets its contract: a refusal 1 to 3, 10, 11, 4 or 7, or what `judge_sound` says. Assumes nothing.
-use mathlib.Core.Path.{◌≡◌, sym, ap, ◌∙◌}
-use borrow.Author.Rules.{rules}
+use Rattle.std.proofs.Common.{List, ◌≡◌, ℕ, sym, ap, ◌∙◌}
 use Rattle.rules.specs.Table.{check_reply}
 use Rattle.soundness.specs.declared.record.Record.{Record}
 use Rattle.soundness.specs.Setup.{setup_of}
@@ -11,32 +10,27 @@ use Rattle.monitor.proofs.step.judge.Goals as goal
 
 -- The record fits, and so its row count is the table's.
 
-module _ (c : tie.After-known-told2) where
-  abbrev at-start : tie.Start
-  at-start = c
-
-  abbrev kept : Record
-  kept = record_met at-start.args.arrival at-start.args.count at-start.args.truths.now at-start.args.counts.now at-start.args.firsts.now
-
-  fits : Fit (setup_of at-start.args.table.now at-start.args.list.now) at-start.args.store-1.now kept c.checked-in-Passed-1.given.0.0
-  fits = fit_gives _ _ _ _ _ (sym (ap check_reply c.checked-in-Passed-1.given.1) ∙ c.fit-checked.ensures)
-
-  counted : at-start.args.count ≡ c.checked-in-Passed-1.given.0.0
-  counted = (sound_parts _ _ _ fits.sound).counted ∙ sym fits.counted
+counted : {table list store : List ℕ} {kept : Record} {rows : ℕ} → Fit (setup_of table list) store kept rows → kept.rows ≡ rows
+counted fits = (sound_parts _ _ _ fits.sound).counted ∙ sym fits.counted
 
 pub judge_sound-requires : goal.judge_sound-requires
 judge_sound-requires c =
-    let known = c in
-    (((fits known).ready, (fits known).counted), rw (← (counted known)) (fits known).sound)
+    let args = c.args in
+    let kept : Record = record_met args.arrival args.count args.truths.now args.counts.now args.firsts.now in
+    let fits : Fit (setup_of args.table.now args.list.now) args.store.now kept c.in-Passed.rows =
+        fit_gives _ _ _ _ _ (sym (ap check_reply c.in-Passed.is) ∙ c.fit-checked.ensures) in
+    record { store_value = (fits.ready, fits.counted); firsts_value = rw (← counted fits) fits.sound }
 
 pub returns-in-Refused : goal.returns-in-Refused
 returns-in-Refused c =
-    let met = c in
     rw c.refused.ensures
-    (left-refused _ _ met.args.arrival _ _ _ _ _ _
-    (fit_refused _ _ _ _ _ (sym (ap check_reply met.checked-1.given.1) ∙ met.fit-checked.ensures)))
+    (left-refused _ _ c.args.arrival _ _ _ _ _ _
+    (fit_refused _ _ _ _ _ (sym (ap check_reply c.in-Refused.is) ∙ c.fit-checked.ensures)))
 
 pub returns-in-Passed : goal.returns-in-Passed
 returns-in-Passed c =
-    let j = c in
-    rw (counted j) j.judge_sound.ensures
+    let args = c.args in
+    let kept : Record = record_met args.arrival args.count args.truths.now args.counts.now args.firsts.now in
+    let fits : Fit (setup_of args.table.now args.list.now) args.store.now kept c.in-Passed.rows =
+        fit_gives _ _ _ _ _ (sym (ap check_reply c.in-Passed.is) ∙ c.fit-checked.ensures) in
+    rw (counted fits) c.judge_sound.ensures

@@ -9,17 +9,13 @@ use Rattle.sound_spans.proofs.stretch.endless.Goals as goal
 
 pub returns-then-held-ne1 : goal.returns-then-held-ne1
 returns-then-held-ne1 c =
-    let start = c in
-    let args = start.args in
-    sym (endless_many (round_from args.held.first args.words.now) args.held.count args.time args.latest-first (omega arith))
+    let args = c.args in
+    sym (endless_many (round_from args.held.first args.words.now) args.held.count args.time args.latest_first (omega arith))
 
 pub endless_at-requires : goal.endless_at-requires
-endless_at-requires c =
-    let start = c in
-    omega (arith, places_fit (length start.args.words.now))
+endless_at-requires c = omega (arith, places_fit (length c.args.words.now))
 
 pub returns : goal.returns
 returns c =
-    let start = c in
-    let args = start.args in
-    c.endless_at.ensures ∙ sym (endless_one args.words.now args.held start.requires args.time args.latest-first c.if-held-ne1.false)
+    let args = c.args in
+    c.endless_at.ensures ∙ sym (endless_one args.words.now args.held c.requires args.time args.latest_first c.if-held-ne1.false)

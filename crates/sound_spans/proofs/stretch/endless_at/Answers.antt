@@ -1,6 +1,5 @@
 -- `sound_spans::stretch::endless_at` meets its contract, by its tests. Assumes nothing.
 use mathlib.Core.Path.{refl}
-use borrow.Author.Rules.{rules}
 use borrow.Author.Tests.{eq-eqb, ne_eqb, le-leb, lt-leb}
 use Rattle.sound_spans.proofs.stretch.endless_at.Goals as goal
 

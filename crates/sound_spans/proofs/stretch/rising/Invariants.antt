@@ -1,13 +1,9 @@
 -- `sound_spans::stretch::rising` meets its contract. The loop: the answer from place i on is the whole answer, where what a span may begin from is
 -- `least + more`; one turn is `sound-next`. The measure is what is left of the places. Assumes nothing.
-use mathlib.Core.Bool.{◌&&◌}
-use mathlib.Core.Path.{◌≡◌, refl, sym, ◌∙◌}
-use Prim.Native.Nat.{◌+◌, ◌*◌, ◌-◌}
-use native.Mathlib.Omega.{arith}
-use lib.ListN.{get_or}
+use mathlib.Core.Path.{◌≡◌}
+use Prim.Native.Nat.{◌+◌, ◌-◌}
 use Rattle.spans.specs.Layout.{spans_from}
-use Rattle.sound_spans.specs.StretchSound.{sound_span?, sound_from?}
-use Rattle.sound_spans.proofs.SoundSteps.{sound-next, sound_none}
+use Rattle.sound_spans.specs.StretchSound.{sound_from?}
 use Rattle.sound_spans.proofs.stretch.rising.Given as goal
 
 abbrev pub invariant-loop-i : goal.invariant-loop-i

@@ -2,7 +2,6 @@
 use mathlib.Core.Path.{sym, ap, ◌∙◌}
 use native.Mathlib.Nat.{sub-zero}
 use native.Mathlib.Omega.{arith}
-use borrow.Author.Rules.{rules}
 use lib.Seq.{take-length}
 use Rattle.spans.specs.Layout.{zeros?}
 use Rattle.sound_spans.proofs.SoundSteps.{empty-placed, empty-misplaced, outside, too_many, when-placed}

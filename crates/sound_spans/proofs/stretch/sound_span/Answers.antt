@@ -1,6 +1,5 @@
 -- `sound_spans::stretch::sound_span` meets its contract: each way out is told by the tests before it. Assumes nothing.
 use mathlib.Core.Path.{refl}
-use borrow.Author.Rules.{rules}
 use borrow.Author.Tests.{le-leb, lt-leb}
 use Rattle.sound_spans.specs.StretchSound.{sound_span?}
 use Rattle.sound_spans.proofs.stretch.sound_span.Goals as goal

@@ -1,9 +1,7 @@
-use mathlib.Core.Path.{◌≡◌, refl, sym, ◌∙◌}
-use Prim.Native.Nat.{◌-◌}
+-- A turn reads one word (`zeros-next`); at the end no word is left (`zeros-end`).
+use mathlib.Core.Path.{refl, sym, ◌∙◌}
 use native.Mathlib.Omega.{arith}
 use borrow.Author.Tests.{eq-eqb, ne_eqb}
-use lib.ListN.{take, drop}
-use Rattle.spans.specs.Layout.{zeros?}
 use Rattle.sound_spans.proofs.SoundSteps.{zeros-next, zeros-end}
 use Rattle.sound_spans.proofs.stretch.zeros_between.Goals as goal
 

@@ -1,12 +1,9 @@
 -- `sound_spans::stretch::zeros_between` meets its contract. The loop: the answer from word i on is the whole answer; one turn is `zeros-next`. The measure
 -- is what is left up to the end. Assumes nothing.
-use mathlib.Core.Path.{◌≡◌, refl, sym, ◌∙◌}
+use mathlib.Core.Path.{◌≡◌}
 use Prim.Native.Nat.{◌-◌}
-use native.Mathlib.Omega.{arith}
-use borrow.Author.Tests.{eq-eqb, ne_eqb}
 use lib.ListN.{take, drop}
 use Rattle.spans.specs.Layout.{zeros?}
-use Rattle.sound_spans.proofs.SoundSteps.{zeros-next, zeros-end}
 use Rattle.sound_spans.proofs.stretch.zeros_between.Given as goal
 
 abbrev pub invariant-loop-i : goal.invariant-loop-i

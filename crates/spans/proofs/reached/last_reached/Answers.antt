@@ -1,6 +1,5 @@
 -- `spans::reached::last_reached` meets its contract, by its two tests. Assumes nothing.
 use mathlib.Core.Path.{sym, ◌∙◌}
-use borrow.Author.Rules.{rules}
 use Rattle.spans.proofs.ReachedLaws.{marked, summed, reached-early, reached-late}
 use Rattle.spans.proofs.reached.last_reached.Goals as goal
 

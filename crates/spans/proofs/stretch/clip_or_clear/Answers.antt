@@ -1,5 +1,4 @@
 -- `spans::stretch::clip_or_clear` meets its contract, by what its two callees ensure. Assumes nothing.
-use borrow.Author.Rules.{rules}
 use Rattle.spans.proofs.stretch.clip_or_clear.Goals as goal
 
 pub returns-then-keep : goal.returns-then-keep

@@ -2,7 +2,6 @@
 use mathlib.Core.Path.{◌≡◌, sym, ap, ◌∙◌}
 use Prim.Native.Nat.{ℕ, ◌*◌}
 use native.Mathlib.Omega.{arith}
-use borrow.Author.Rules.{rules}
 use lib.ListN.{length}
 use Rattle.spans.specs.Layout.{places_of, round_from, span_at, spans_from}
 use Rattle.spans.specs.Stretch.{span_covers, first_covers}

@@ -1,14 +1,9 @@
 -- `spans::stretch::ended` meets its contract. The loop: i spans ended, and the answer is i and what ended from the i-th on; one turn is `ended-more`. The
 -- measure is what is left of the count. Assumes nothing.
-use mathlib.Core.Path.{◌≡◌, refl}
-use Prim.Native.Nat.{◌+◌, ◌*◌, ◌-◌, ◌≤◌}
-use native.Mathlib.Nat.{sub-zero}
-use native.Mathlib.Omega.{arith}
-use lib.ListN.{length, get_or}
-use Rattle.spans.specs.Layout.{places_of, round_from, spans_from}
+use mathlib.Core.Path.{◌≡◌}
+use Prim.Native.Nat.{◌+◌, ◌-◌, ◌≤◌}
+use Rattle.spans.specs.Layout.{round_from, spans_from}
 use Rattle.spans.specs.Stretch.{ended_count}
-use Rattle.spans.proofs.RoundLaws.{places_whole, round_get}
-use Rattle.spans.proofs.ClipLaws.{ended-more, ended_stop, ended-none}
 use Rattle.spans.proofs.stretch.ended.Given as goal
 
 abbrev pub invariant-loop-i : goal.invariant-loop-i

@@ -1,6 +1,5 @@
 -- `spans::stretch::find` meets its contract, by its two tests. Assumes nothing.
 use mathlib.Core.Path.{refl}
-use borrow.Author.Rules.{rules}
 use borrow.Author.Tests.{lt-ltb, le-ltb, le-leb, lt-leb}
 use Rattle.meaning.proofs.Truths.{and_false}
 use Rattle.spans.specs.Stretch.{held_found}

@@ -1,6 +1,5 @@
 -- `spans::stretch::first_left` meets its contract, by its test and by its callee. Assumes nothing.
 use mathlib.Core.Path.{refl, ◌∙◌}
-use borrow.Author.Rules.{rules}
 use borrow.Author.Tests.{ne_eqb}
 use Rattle.spans.specs.Stretch.{first_left}
 use Rattle.spans.proofs.stretch.first_left.Goals as goal

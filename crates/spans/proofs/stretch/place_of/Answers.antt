@@ -1,7 +1,6 @@
 -- `spans::stretch::place_of` meets its contract: a place that is less than all of them on is inside (`place-fits`). Assumes nothing.
 use mathlib.Core.Path.{◌≡◌, refl, ◌∙◌}
 use native.Mathlib.Omega.{arith}
-use borrow.Author.Rules.{rules}
 use lib.ListN.{length}
 use Rattle.spans.specs.Layout.{places_of, place_at}
 use Rattle.spans.proofs.RoundLaws.{place-fits}

@@ -1,11 +1,9 @@
 -- `text::replies::write_hyphens` meets its contract. The loop: so many hyphens are written; one more is `wrote-hyphen`. The measure is what is
 -- left of them. Assumes nothing.
-use mathlib.Core.Path.{◌≡◌, refl}
+use mathlib.Core.Path.{◌≡◌}
 use Prim.Native.Nat.{◌+◌, ◌-◌, ◌≤◌}
-use native.Mathlib.Omega.{arith}
-use lib.ListN.{length, length-set}
+use lib.ListN.{length}
 use Rattle.text.specs.Replies.{verdict_digits, hyphens, Wrote}
-use Rattle.text.proofs.WroteLaws.{wrote_none, wrote-hyphen}
 use Rattle.text.proofs.replies.write_hyphens.Given as goal
 
 abbrev pub invariant-loop-done : goal.invariant-loop-done

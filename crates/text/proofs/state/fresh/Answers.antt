@@ -1,8 +1,7 @@
 -- `text::state::fresh` meets its contract. Assumes nothing.
-use borrow.Author.Rules.{rules}
 use Rattle.text.specs.Feed.{fresh}
 use Rattle.text.proofs.state.fresh.Goals as goal
 
 pub returns : goal.returns
 unfolding fresh
-returns c = rw c.nothing_Seen.ensures
+returns c = rw c.nothing_seen.ensures

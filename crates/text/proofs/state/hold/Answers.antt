@@ -1,5 +1,4 @@
 -- `text::state::hold` meets its contract. Assumes nothing.
-use borrow.Author.Rules.{rules}
 use borrow.Author.Tests.{lt-ltb, le-ltb}
 use Rattle.text.specs.Held.{holding}
 use Rattle.text.proofs.state.hold.Goals as goal
