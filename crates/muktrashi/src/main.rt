@@ -62,10 +62,9 @@ fn run(
     while turns < u64::MAX {
         let n = bytes_read(stdin, piece);
         if n == 0 {
-            let State { held, stage } = state;
-            end(stdout, State { held, stage }, out);
+            end(stdout, state, out);
             return Ran {
-                state: State { held, stage },
+                state,
                 turns,
                 ended: true,
             };

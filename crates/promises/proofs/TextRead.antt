@@ -64,6 +64,6 @@ no_more_lines text more place (suc readings) enough =
 pub read_whole : (text : List ℕ) → ReadWhole text
 read_whole text =
     record {
-      at_end_lem = reaches_end text 0 (length text) (omega arith);
+      at_end = reaches_end text 0 (length text) (omega arith);
       no_more = λ more. no_more_lines text more 0 (length text) (omega arith);
     }

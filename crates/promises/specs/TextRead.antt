@@ -24,7 +24,7 @@ abbrev pub lines_read : List ℕ → List LineReply
 lines_read text = lines_from text 0 (length text)
 
 pub record ReadWhole (text : List ℕ) : Type 0 where
-  pub at_end_lem : length text ≤ place_after text 0 (length text)
+  pub at_end : length text ≤ place_after text 0 (length text)
   pub no_more : (more : ℕ) → lines_from text 0 (length text + more) ≡ lines_read text
 
 -- The numbers of the good lines.

@@ -11,7 +11,7 @@ use native.Mathlib.Numerals.{add-one, add-two, add-three, add-four}
 use lib.ListN.{length, take, drop, set}
 use lib.Seq.{sets-eq, take_all}
 use Rattle.rules.specs.Limits.{row_limit, row_numbers}
-use Rattle.refusals.specs.Refusals.{Refused, refused}
+use Rattle.refusals.specs.Refusals.{refused}
 use Rattle.refusals.specs.declared.refusal.Refusal.{Refusal}
 use Rattle.lines.specs.Digits.{byte_at, overwritten}
 use Rattle.lines.specs.Line.{line_feed}

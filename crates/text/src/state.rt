@@ -41,7 +41,7 @@ pub struct Stage {
     pub found: Record,
 }
 
-#[derive(Drop)]
+#[derive(Clone, Copy)]
 pub struct State {
     pub held: Held,
     pub stage: Stage,

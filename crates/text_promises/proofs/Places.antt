@@ -61,12 +61,12 @@ module _ (text : List ℕ) (place : ℕ) (within : place < length text) where
 
 readings : (text : List ℕ) (place n : ℕ) → length text ≤ place + n → lines_from text place n ≡ map alone (lines_of (drop place text))
 unfolding lines_from lines_going_on
-readings text place zero enough = let at_end_lem : length text ≤ place = omega arith in rw (drop_of_length-le text at_end_lem)
+readings text place zero enough = let past_end : length text ≤ place = omega arith in rw (drop_of_length-le text past_end)
 readings text place (suc n) enough =
     by_test (leb (length text) place)
     (λ past.
-    let at_end_lem : length text ≤ place = leb-true _ _ past in
-    rw (drop_of_length-le text at_end_lem, said-end text place at_end_lem))
+    let past_end : length text ≤ place = leb-true _ _ past in
+    rw (drop_of_length-le text past_end, said-end text place past_end))
     (λ more.
     let within : place < length text = leb-false _ _ more in
     let next : (read_frame text place).next ≡ place + past_first (drop place text) = next_is text place within in

@@ -1,6 +1,5 @@
 -- `soundness::fit::fit` meets its contract: what `ready` answered, then the test of the record. Assumes nothing.
 use mathlib.Core.Path.{sym, ap, ◌∙◌}
-use borrow.Author.Rules.{rules}
 use Rattle.rules.specs.Table.{check_reply}
 use Rattle.soundness.specs.Fit.{fit_of}
 use Rattle.soundness.proofs.ReadyLaws.{ready_gives, ready_table}

@@ -1,12 +1,6 @@
 -- `soundness::soundness::sound_record` meets its contract: the first test that fails decides. Assumes nothing.
-use mathlib.Core.Bool.{true}
-use mathlib.Core.Path.{◌≡◌, sym, ◌∙◌}
+use mathlib.Core.Path.{sym, ◌∙◌}
 use native.Mathlib.Omega.{arith}
-use borrow.Author.Rules.{rules}
-use Rattle.rules.specs.Rows.{rows_of}
-use Rattle.soundness.specs.declared.record.Record.{Record}
-use Rattle.soundness.specs.Record.{record_of}
-use Rattle.soundness.specs.Soundness.{every, sound_row?, sound_times?}
 use Rattle.soundness.proofs.ReadyLaws.{table_ready}
 use Rattle.soundness.proofs.SoundnessLaws.{times-within, rows-counted, unsound_count, unsound-time, unsound-row, sound-by-past}
 use Rattle.soundness.proofs.soundness.sound_record.Goals as goal

@@ -4,7 +4,6 @@ use mathlib.Core.Bool.{true}
 use mathlib.Core.Path.{◌≡◌}
 use Prim.Native.Nat.{◌≤◌}
 use native.Mathlib.Omega.{arith}
-use borrow.Author.Rules.{rules}
 use Rattle.soundness.specs.Soundness.{sound_entry?}
 use Rattle.soundness.proofs.SoundnessLaws.{entry_within, bare_sound}
 use Rattle.soundness.proofs.soundness.sound_row.Goals as goal

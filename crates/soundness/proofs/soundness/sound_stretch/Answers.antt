@@ -2,7 +2,6 @@
 use mathlib.Core.Path.{◌∙◌}
 use Prim.Native.Nat.{◌≤◌}
 use native.Mathlib.Omega.{arith}
-use borrow.Author.Rules.{rules}
 use Rattle.times.specs.Times.{time_limit}
 use Rattle.spans.proofs.ReachedLaws.{reached-early}
 use Rattle.soundness.proofs.soundness.sound_stretch.Goals as goal
