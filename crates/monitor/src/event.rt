@@ -58,7 +58,7 @@ pub(crate) fn judge_rows(
     firsts: &mut [u32; ROW_LIMIT],
 )
     requires unrefused_by_some { UnrefusedBySome table.now store.old arrival rows found.now counts.old firsts.old }
-    requires rows_value { (rows ≡ rows_of table.now) × (truths.old ≡ found.now) }
+    requires counted { (rows ≡ rows_of table.now) × (truths.old ≡ found.now) }
     ensures { AfterRows
         (moment_met table.now store.old arrival rows found.now counts.old firsts.old)
         rows truths.new counts.new firsts.new store.new }
@@ -172,7 +172,7 @@ fn judge_stretch(
     time: u64,
     numbers: Numbers,
 ) -> Updated
-    requires time_le_time_limit { time ≤ time_limit }
+    requires within_limit { time ≤ time_limit }
     requires update_ready { UpdateReady from end store.old (held_of place count) keep feed time (reached_from time numbers.a (end_of numbers.b)) }
     ensures { UpdatedIn from end store.old (held_of place count) keep feed time (reached_from time numbers.a (end_of numbers.b))
         result store.new }

@@ -159,8 +159,8 @@ fn judge_sound(
     counts: &mut [u32; ROW_LIMIT],
     firsts: &mut [u32; ROW_LIMIT],
 ) -> Told
-    requires store_value { (refusal_in (ready_of (setup_of table.now list.now) (length store.old)) ≡ none) × (rows ≡ rows_of table.now) }
-    requires firsts_value { sound? table.now store.old (record_met arrival rows truths.old counts.old firsts.old) ≡ true }
+    requires ready { (refusal_in (ready_of (setup_of table.now list.now) (length store.old)) ≡ none) × (rows ≡ rows_of table.now) }
+    requires sound { sound? table.now store.old (record_met arrival rows truths.old counts.old firsts.old) ≡ true }
     ensures { LeftIn (outcome_met (setup_of table.now list.now) store.old arrival rows truths.old counts.old firsts.old)
         result truths.new counts.new firsts.new store.new }
 {
@@ -194,7 +194,7 @@ fn accept(
     firsts: &mut [u32; ROW_LIMIT],
 ) -> Told
     requires unrefused { Unrefused (setup_of table.now list.now) store.old arrival rows truths.old counts.old firsts.old }
-    requires rows_value { (rows ≡ rows_of table.now) × (heartbeat? arrival.mask ≡ false) }
+    requires counted { (rows ≡ rows_of table.now) × (heartbeat? arrival.mask ≡ false) }
     ensures { LeftIn (outcome_met (setup_of table.now list.now) store.old arrival rows truths.old counts.old firsts.old)
         result truths.new counts.new firsts.new store.new }
 {

@@ -21,7 +21,8 @@ calls-kept : (setup : Setup)
 unfolding kept after
 calls-kept setup listed all s [] inv = inv
 calls-kept setup listed all s (c ∷ calls) inv =
-    calls-kept setup listed (cond (keeps? (last_time all) c) (event_of (last_time all) c ∷ all) all) (next setup s c) calls (next-kept setup listed all s inv c _ refl)
+    calls-kept setup listed (cond (keeps? (last_time all) c) (event_of (last_time all) c ∷ all) all) (next setup s c) calls
+    (next-kept setup listed all s inv c _ refl)
 
 pub stream-kept : (setup : Setup) (store : List ℕ)
     → Starts setup store

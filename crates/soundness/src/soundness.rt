@@ -34,7 +34,7 @@ pub(crate) fn sound_record(
     firsts: &[u32; ROW_LIMIT],
 ) -> bool
     requires table_ready { TableReady table.now (length store.now) }
-    requires rows_value { rows ≡ rows_of table.now }
+    requires counted { rows ≡ rows_of table.now }
     ensures { result ≡ sound? table.now store.now
         (record_of seen clock last count truths.now counts.now firsts.now) }
 {
@@ -83,7 +83,7 @@ fn sound_rows(
     firsts: &[u32; ROW_LIMIT],
 ) -> bool
     requires table_ready { TableReady table.now (length store.now) }
-    requires rows_value { (rows ≡ rows_of table.now) × (last ≤ clock) × (clock ≤ time_limit) }
+    requires counted { (rows ≡ rows_of table.now) × (last ≤ clock) × (clock ≤ time_limit) }
     ensures { result ≡ every rows (sound_row? table.now store.now
         (record_of seen clock last rows truths.now counts.now firsts.now)) }
 {

@@ -189,7 +189,7 @@ fn list_line(stage: Stage, line: &[u8], out: &mut [u8], place: usize) -> Told
 // A rule line is read, and its numbers follow the rows read.
 fn rule_line(stage: Stage, table: &mut [u32], line: &[u8], out: &mut [u8], place: usize) -> Told
     requires room { Room stage table.old out.old place }
-    requires rows_lt_row_limit { stage.rows < row_limit }
+    requires below_limit { stage.rows < row_limit }
     ensures { (store : List ℕ) → Turned (rule_turn (read_rule line.now 0).said)
         stage table.old store out.old place
         result table.new store out.new }

@@ -7,7 +7,6 @@ use Rattle.kinds.specs.Kinds.{kinds, kind_at}
 use Rattle.kinds.proofs.table.line_of.Goals as goal
 
 -- A number that is none of three in a row is past them.
-
 past_three : (n k : ℕ) → n ≤ k → ¬ (k ≡ n) → ¬ (k ≡ n + 1) → ¬ (k ≡ n + 2) → n + 3 ≤ k
 past_three n k from first second third = omega arith
 

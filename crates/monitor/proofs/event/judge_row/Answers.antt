@@ -9,7 +9,6 @@ use Rattle.monitor.proofs.RowLaws.{StretchRead, stretch-ready, stretch-count, st
 use Rattle.monitor.proofs.event.judge_row.Goals as goal
 
 -- The row owns a stretch.
-
 names : {truths : List ℕ} {n : Numbers} {columns : Stretch} {owned keep feed : Bool}
     → owned ≡ owns_stretch n.kind
     → owned ≡ true

@@ -8,13 +8,12 @@ use Rattle.monitor.proofs.RowLaws.{ready_as, updated_as}
 use Rattle.monitor.proofs.event.judge_stretch.Goals as goal
 
 -- Both times what the event reaches, as it was computed.
-
 pub update_in-requires : goal.update_in-requires
 update_in-requires c =
     let time = c.args.time in
     let numbers = c.args.numbers in
     let spanned : reached_from time numbers.a (end_of numbers.b) ≡ (time + c.wide.result to end_at c.last_reached-last.result) =
-    rw (c.last_reached-last.ensures ∙ reached-early time numbers.b c.requires.time_le_time_limit, c.wide.ensures) in
+    rw (c.last_reached-last.ensures ∙ reached-early time numbers.b c.requires.within_limit, c.wide.ensures) in
     ready_as spanned c.requires.update_ready
 
 pub returns : goal.returns
@@ -22,5 +21,5 @@ returns c =
     let time = c.args.time in
     let numbers = c.args.numbers in
     let spanned : reached_from time numbers.a (end_of numbers.b) ≡ (time + c.wide.result to end_at c.last_reached-last.result) =
-    rw (c.last_reached-last.ensures ∙ reached-early time numbers.b c.requires.time_le_time_limit, c.wide.ensures) in
+    rw (c.last_reached-last.ensures ∙ reached-early time numbers.b c.requires.within_limit, c.wide.ensures) in
     updated_as spanned c.update_in.ensures

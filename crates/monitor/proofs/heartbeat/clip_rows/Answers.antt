@@ -9,14 +9,12 @@ unfolding offset entries_with words_done store_with
 loop-row-init c = (omega arith, refl, record { counts_are = refl; firsts_are = refl; store_is = refl })
 
 -- The row's stretch can be clipped.
-
 pub clip_in-left-requires : goal.clip_in-left-requires
 clip_in-left-requires c =
     clip-ready _ _ _ _ _ _ c.requires (omega arith) c.loop-row.invariant.1 c.loop-row.invariant.2
     c.numbers_at-numbers.ensures c.words.ensures refl refl
 
 -- What is left of the row's spans is counted by numbers of the record.
-
 pub overflow_cast-counts : goal.overflow_cast-counts
 overflow_cast-counts c =
     record {

@@ -8,7 +8,6 @@ use Rattle.soundness.proofs.ReadyLaws.{ready_room}
 use Rattle.monitor.proofs.start.start.Goals as goal
 
 -- The need is within the store, so the words before its end become 0 and the others stay.
-
 pub slice_bounds-clear_words-end : goal.slice_bounds-clear_words-end
 slice_bounds-clear_words-end c =
     omega (arith, ready_room _ _ _ _ (sym c.ready-checked.ensures ∙ ap check_reply c.in-Passed.is))

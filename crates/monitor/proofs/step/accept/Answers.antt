@@ -5,4 +5,4 @@ use Rattle.monitor.proofs.step.accept.Goals as goal
 pub returns : goal.returns
 returns c =
     rw c.verdict.ensures
-    (left_accepted _ _ _ _ _ _ _ _ _ _ _ c.requires.unrefused c.requires.rows_value.0 c.requires.rows_value.1 c.judge_rows.ensures)
+    (left_accepted _ _ _ _ _ _ _ _ _ _ _ c.requires.unrefused c.requires.counted.0 c.requires.counted.1 c.judge_rows.ensures)

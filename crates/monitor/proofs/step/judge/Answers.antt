@@ -9,7 +9,6 @@ use Rattle.monitor.proofs.StepLaws.{left-refused, fit_refused, Fit, fit_gives}
 use Rattle.monitor.proofs.step.judge.Goals as goal
 
 -- The record fits, and so its row count is the table's.
-
 counted : {table list store : List ℕ} {kept : Record} {rows : ℕ} → Fit (setup_of table list) store kept rows → kept.rows ≡ rows
 counted fits = (sound_parts _ _ _ fits.sound).counted ∙ sym fits.counted
 
@@ -19,7 +18,7 @@ judge_sound-requires c =
     let kept : Record = record_met args.arrival args.count args.truths.now args.counts.now args.firsts.now in
     let fits : Fit (setup_of args.table.now args.list.now) args.store.now kept c.in-Passed.rows =
     fit_gives _ _ _ _ _ (sym (ap check_reply c.in-Passed.is) ∙ c.fit-checked.ensures) in
-    record { store_value = (fits.ready, fits.counted); firsts_value = rw (← counted fits) fits.sound }
+    record { ready = (fits.ready, fits.counted); sound = rw (← counted fits) fits.sound }
 
 pub returns-in-Refused : goal.returns-in-Refused
 returns-in-Refused c =

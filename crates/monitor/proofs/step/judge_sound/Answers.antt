@@ -11,22 +11,21 @@ pub returns-then-arrival-gt-TIME_LIMIT : goal.returns-then-arrival-gt-TIME_LIMIT
 returns-then-arrival-gt-TIME_LIMIT c =
     rw c.refused.ensures
     (left-refused _ _ c.args.arrival _ _ _ _ _ _
-    (late _ _ _ _ c.requires.store_value.0 c.requires.firsts_value c.if-arrival-gt-TIME_LIMIT.true))
+    (late _ _ _ _ c.requires.ready.0 c.requires.sound c.if-arrival-gt-TIME_LIMIT.true))
 
 pub returns-then-arrival : goal.returns-then-arrival
 returns-then-arrival c =
     rw c.refused-then-arrival.ensures
     (left-refused _ _ c.args.arrival _ _ _ _ _ _
-    (earlier _ _ _ _ c.requires.store_value.0 c.requires.firsts_value c.if-arrival-gt-TIME_LIMIT.false c.if-arrival.true))
+    (earlier _ _ _ _ c.requires.ready.0 c.requires.sound c.if-arrival-gt-TIME_LIMIT.false c.if-arrival.true))
 
 -- Nothing refuses the call from here on.
-
 pub clip_rows-requires : goal.clip_rows-requires
 clip_rows-requires c =
     let args = c.args in
     let passes : Unrefused (setup_of args.table.now args.list.now) args.store.now args.arrival args.rows args.truths.now args.counts.now args.firsts.now =
-    unrefused _ _ _ _ c.requires.store_value.0 c.requires.firsts_value c.if-arrival-gt-TIME_LIMIT.false c.if-arrival.false in
-    rw c.requires.store_value.1
+    unrefused _ _ _ _ c.requires.ready.0 c.requires.sound c.if-arrival-gt-TIME_LIMIT.false c.if-arrival.false in
+    rw c.requires.ready.1
     (rows-laid _ _ _ _
     (accepted (setup_of args.table.now args.list.now) args.store.now
     (record_met args.arrival args.rows args.truths.now args.counts.now args.firsts.now) (event args.arrival.time args.arrival.mask) passes))
@@ -34,9 +33,9 @@ clip_rows-requires c =
 pub returns-then-is_heartbeat : goal.returns-then-is_heartbeat
 returns-then-is_heartbeat c =
     left-moved _ _ _ _ _ _ _ _ _ _
-    (unrefused _ _ _ _ c.requires.store_value.0 c.requires.firsts_value c.if-arrival-gt-TIME_LIMIT.false c.if-arrival.false)
-    c.requires.store_value.1 (sym c.is_heartbeat.ensures ∙ c.if-is_heartbeat.true) c.clip_rows.ensures
+    (unrefused _ _ _ _ c.requires.ready.0 c.requires.sound c.if-arrival-gt-TIME_LIMIT.false c.if-arrival.false)
+    c.requires.ready.1 (sym c.is_heartbeat.ensures ∙ c.if-is_heartbeat.true) c.clip_rows.ensures
 
 pub accept-requires-clause-unrefused : goal.accept-requires-clause-unrefused
 accept-requires-clause-unrefused c =
-    unrefused _ _ _ _ c.requires.store_value.0 c.requires.firsts_value c.if-arrival-gt-TIME_LIMIT.false c.if-arrival.false
+    unrefused _ _ _ _ c.requires.ready.0 c.requires.sound c.if-arrival-gt-TIME_LIMIT.false c.if-arrival.false

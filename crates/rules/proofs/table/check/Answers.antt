@@ -32,7 +32,6 @@ use Rattle.rules.proofs.PassedLaws.{range_told, rows-good, width-most, offset-mo
 use Rattle.rules.proofs.table.check.Goals as goal
 
 -- What the calls in a row tell of the table, from what each ensures.
-
 known_told : {result : Bool} {found row : Numbers} → result ≡ known found.kind → found ≡ row → result ≡ known row.kind
 known_told told found_is = told ∙ ap (λ (row : Numbers). known row.kind) found_is
 

@@ -8,7 +8,7 @@ use Rattle.soundness.proofs.fit.fit.Goals as goal
 pub sound_record-requires : goal.sound_record-requires
 sound_record-requires c =
     let passes = sym c.ready-checked.ensures ∙ ap check_reply c.in-Passed.is in
-    record { table_ready = ready_table _ _ _ _ passes; rows_value = (ready_gives _ _ _ _ passes).table.passes.counted }
+    record { table_ready = ready_table _ _ _ _ passes; counted = (ready_gives _ _ _ _ passes).table.passes.counted }
 
 pub returns-then-sound_record : goal.returns-then-sound_record
 unfolding fit_of

@@ -64,13 +64,13 @@ offset_bounds-store-from c =
     )
 
 pub bounds-truths-row : goal.bounds-truths-row
-bounds-truths-row c = few _ _ c.loop-row.row c.args.rows c.requires.table_ready c.requires.rows_value.0 c.loop-row-test.true
+bounds-truths-row c = few _ _ c.loop-row.row c.args.rows c.requires.table_ready c.requires.counted.0 c.loop-row-test.true
 
 pub bounds-counts-row : goal.bounds-counts-row
-bounds-counts-row c = few _ _ c.loop-row.row c.args.rows c.requires.table_ready c.requires.rows_value.0 c.loop-row-test.true
+bounds-counts-row c = few _ _ c.loop-row.row c.args.rows c.requires.table_ready c.requires.counted.0 c.loop-row-test.true
 
 pub bounds-firsts-row : goal.bounds-firsts-row
-bounds-firsts-row c = few _ _ c.loop-row.row c.args.rows c.requires.table_ready c.requires.rows_value.0 c.loop-row-test.true
+bounds-firsts-row c = few _ _ c.loop-row.row c.args.rows c.requires.table_ready c.requires.counted.0 c.loop-row-test.true
 
 pub sound_row-requires : goal.sound_row-requires
 sound_row-requires c =
@@ -82,8 +82,8 @@ sound_row-requires c =
     let wide : words ≡ width c.numbers_at-numbers.result = rw c.spans-spans.ensures in (
       c.spans-spans.ensures,
       mid_len from (from + words) c.args.store.now within ∙ all ∙ wide,
-      c.requires.rows_value.1,
-      c.requires.rows_value.2,
+      c.requires.counted.1,
+      c.requires.counted.2,
     )
 
 pub loop-row-preserved : goal.loop-row-preserved
