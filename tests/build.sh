@@ -135,7 +135,7 @@ tidy() {
 mkdir "$work/tmp" "$work/bare"
 export TMPDIR=$work/tmp
 # What tools/build itself needs, and no compiler, linker or kit.
-for tool in bash cat chmod cp dirname env find flock grep ln mkdir mktemp mv python3 readlink rm sed sh sleep touch; do
+for tool in bash cat chmod cmp cp dirname env find flock grep ln mkdir mktemp mv python3 readlink rm sed sh sleep touch; do
     ln -s "$(type -P "$tool")" "$work/bare/"
 done
 
@@ -146,8 +146,8 @@ for target in x86_64 aarch64 cortex-m0 cortex-m3 cortex-m4 cortex-m4f wasm32; do
     [ -s "$work/repo/target/board/$target/libmuktrashi.a" ] || fail "there is no library for $target"
     builds "$target"
 done
-proofs=$'board_c lib\nboard_c lib --target aarch64-unknown-linux-gnu'
-[ "$(cat "$work/repo/proved")" = "$proofs" ] || fail "one proof is enough for the libraries that are no Linux's, and was '$(cat "$work/repo/proved")'"
+proofs=$'board_c lib\nboard_c lib\nboard_c lib --target aarch64-unknown-linux-gnu'
+[ "$(cat "$work/repo/proved")" = "$proofs" ] || fail "one proof, made again over the kit of links, is enough for all but aarch64, and was '$(cat "$work/repo/proved")'"
 for target in x86_64 aarch64-unknown-linux-gnu; do
     [ "$(cat "$work/repo/target/board/${target%%-*}/libmuktrashi.a")" = "--target=$target" ] || fail "the library for $target is not the kit's own"
 done
@@ -158,7 +158,7 @@ grep -- '--target=thumbv7' "$work/kit/compiled" | grep -qv -- -mno-unaligned-acc
 cmp -s "$work/good.bc" "$work/repo/target/board/module.bc" || fail "target/board/module.bc is not the module that clang was handed"
 touch "$work/repo/crates/board_c/lib.rt"
 builds cortex-m3
-[ "$(wc -l <"$work/repo/proved")" -eq 3 ] || fail "a source has changed, and the library is not built again"
+[ "$(wc -l <"$work/repo/proved")" -eq 5 ] || fail "a source has changed, and the library is not built again"
 
 # What cannot be built.
 fresh
@@ -212,6 +212,10 @@ builds aarch64
 fresh
 ln -sf "$(type -P false)" "$bin/ld.lld"
 path=$work/kit/bin:$work/bare refuses 1 "build: there is no linker for WebAssembly, wasm-ld; install Debian's package lld" wasm32
+
+fresh
+sed -i "2i [ \"\$0\" = $work/kit/bin/rt ] || { echo else >out/libboard_c.a; exit; }" "$work/kit/bin/rt"
+refuses 1 "build: the kit makes another archive of board_c where its module is kept" cortex-m0
 
 # A module with a form that may mean another thing elsewhere.
 not_portable() {

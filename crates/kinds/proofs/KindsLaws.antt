@@ -13,7 +13,6 @@ use Rattle.kinds.specs.Kinds.{Rule, plain, stretch, Kind, kind, kinds, kind_at, 
 use Rattle.kinds.specs.declared.table.Use.{Use}
 use Rattle.kinds.specs.declared.table.Use.TheVariants.{Unused, Bit, Lower, Limit}
 use Rattle.kinds.specs.declared.plain.Plain.{Plain}
-use Rattle.kinds.specs.declared.plain.Plain.TheVariants as Plain
 use Rattle.kinds.specs.declared.stretch.Keep.{Keep}
 use Rattle.kinds.specs.declared.stretch.Keep.TheVariants.{Unasked, WhileX, WhileY}
 use Rattle.kinds.specs.declared.stretch.Feed.{Feed}

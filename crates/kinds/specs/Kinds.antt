@@ -6,7 +6,6 @@ use Rattle.kinds.specs.declared.table.Use.{Use}
 use Rattle.kinds.specs.declared.table.Use.TheVariants.{Unused, Bit, Lower, Limit}
 use Rattle.kinds.specs.declared.table.KindLine.{KindLine}
 use Rattle.kinds.specs.declared.plain.Plain.{Plain}
-use Rattle.kinds.specs.declared.plain.Plain.TheVariants as Plain
 use Rattle.kinds.specs.declared.stretch.Keep.TheVariants.{Unasked, WhileX}
 use Rattle.kinds.specs.declared.stretch.Feed.TheVariants.{FromX, FromY}
 use Rattle.kinds.specs.declared.stretch.Stretch.{Stretch}

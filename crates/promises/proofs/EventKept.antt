@@ -20,7 +20,6 @@ use Rattle.meaning.proofs.HistoryLaws.{NoLater, no_later_on}
 use Rattle.meaning.proofs.RunsLaws.{runs-event, runs_tell}
 use Rattle.kinds.specs.Kinds.{Rule, plain, stretch}
 use Rattle.kinds.specs.declared.plain.Plain.{Plain}
-use Rattle.kinds.specs.declared.plain.Plain.TheVariants as Plain
 use Rattle.kinds.specs.declared.stretch.Keep.{Keep}
 use Rattle.kinds.specs.declared.stretch.Keep.TheVariants.{Unasked, WhileX, WhileY}
 use Rattle.kinds.specs.declared.stretch.Stretch.{Stretch}

@@ -7,7 +7,6 @@ use Rattle.meaning.proofs.OneValue.{one-said}
 use Rattle.refusals.proofs.Outcomes.{refusal_of, refusal_back}
 use Rattle.monitor.specs.declared.answer.Judged.{Judged}
 use Rattle.monitor.specs.declared.answer.StartAnswer.{StartAnswer}
-use Rattle.monitor.specs.declared.answer.StartAnswer.TheVariants as StartAnswer
 use Rattle.monitor.specs.declared.answer.Started.{Started}
 use Rattle.monitor.proofs.Outcomes.{answer_of, answer_back}
 use Rattle.monitor.specs.Start.{Beginning, start_refusal, start_need, said_start}

@@ -4,7 +4,6 @@ use Rattle.std.proofs.Common.{◌≡◌, ℕ, refl, ap}
 use Rattle.meaning.proofs.OneValue.{one-said}
 use Rattle.refusals.proofs.Outcomes.{refusal_of, refusal_back}
 use Rattle.times.specs.declared.frame_time.Timed.{Timed}
-use Rattle.times.specs.declared.frame_time.Timed.TheVariants as Timed
 use Rattle.times.specs.FrameTime.{TimeReply, at, not_at, said_time, TimeGives}
 
 abbrev timed_of : TimeReply → Timed

@@ -4,7 +4,6 @@ use Rattle.meaning.specs.FrameTime.{frame_time}
 use Rattle.refusals.specs.Refusals.{Refused, refused}
 use Rattle.refusals.specs.declared.refusal.Refusal.TheVariants.{Late}
 use Rattle.times.specs.declared.frame_time.Timed.{Timed}
-use Rattle.times.specs.declared.frame_time.Timed.TheVariants as Timed
 use Rattle.times.specs.Times.{time_limit}
 
 -- "Asked for alone, with a last time over 281,474,976,710,655, the time is refused 6"; the last time is the clock.

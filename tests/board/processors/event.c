@@ -109,17 +109,10 @@ static uint32_t judge_copy(int copy, uint64_t time) {
 }
 
 #if defined(UPDATE)
-/* The function `update` of the crate spans, as the module has it on a processor with 64-bit pointers: numbers and truths are handed over as they are, all
- * else by its address. What is held of a stretch has grown by its first place. */
-struct words {
-    uint64_t *words;
-    uint64_t length;
-};
-
+/* The function `update` of the crate spans, as the module has it on a processor with 64-bit pointers: words are handed over as their address and length,
+ * what is held of a stretch as its first place and count, and what is answered is left at an address. */
 struct held {
-#if MUK_VERSION >= 6
     uint64_t first;
-#endif
     uint64_t count;
 };
 
@@ -128,15 +121,15 @@ struct updated {
     uint8_t covered;
 };
 
-void update(struct updated *, const struct words *, const struct held *, _Bool keep, _Bool feed, uint64_t time, uint64_t first, uint64_t last);
+void update(struct updated *, uint64_t *words, uint64_t length, uint64_t held_first, uint64_t held_count, _Bool keep, _Bool feed, uint64_t time,
+            uint64_t first, uint64_t last);
 
-static struct words lent[COPIES];
 static struct held held;
 static struct updated answers[COPIES];
 
 /* As the event calls it; the count that it answers is kept where the event leaves its own. */
 static uint32_t update_copy(int copy, uint64_t time) {
-    update(&answers[copy], &lent[copy], &held, 1, 0, time, time + BACK, time + BACK);
+    update(&answers[copy], stores[copy], STRETCH, held.first, held.count, 1, 0, time, time + BACK, time + BACK);
     records[copy].counts[1] = (uint32_t)answers[copy].held.count;
     return answers[copy].covered;
 }
@@ -145,22 +138,13 @@ static uint32_t update_copy(int copy, uint64_t time) {
 static int starts_update(uint64_t time) {
     int copy;
     held.count = record.counts[1];
-#if MUK_VERSION >= 6
     held.first = record.firsts[1];
-#endif
-    for (copy = 0; copy < COPIES; copy++) {
-        lent[copy].words = stores[copy];
-        lent[copy].length = STRETCH;
+    for (copy = 0; copy < COPIES; copy++)
         memcpy(stores[copy], store, sizeof stores[copy]);
-    }
     records[0] = record;
     if (judge_copy(0, time) != 0 || update_copy(1, time) != 0 || memcmp(stores[0], stores[1], sizeof stores[0]) != 0)
         return 0;
-#if MUK_VERSION >= 6
-    if (answers[1].held.first != records[0].firsts[1])
-        return 0;
-#endif
-    return records[1].counts[1] == records[0].counts[1];
+    return answers[1].held.first == records[0].firsts[1] && records[1].counts[1] == records[0].counts[1];
 }
 #else
 static uint32_t update_copy(int copy, uint64_t time) {

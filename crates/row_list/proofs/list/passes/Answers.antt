@@ -1,8 +1,7 @@
 use native.Mathlib.Omega.{arith}
-use mathlib.Core.Path.{◌≡◌, refl, sym, ◌∙◌}
-use Prim.Native.Nat.{◌-◌, ◌≤◌, ◌<◌}
-use lib.ListN.{length, drop}
-use Rattle.row_list.specs.RowList.{list_limit, rises_within}
+use mathlib.Core.Path.{refl, sym, ◌∙◌}
+use Prim.Native.Nat.{◌≤◌, ◌<◌}
+use lib.ListN.{length}
 use Rattle.row_list.proofs.RowListLaws.{passes_empty, passes_long, passes_by, rises-low, rises-past, rises_next, rises-none}
 use Rattle.row_list.proofs.list.passes.Goals as goal
 

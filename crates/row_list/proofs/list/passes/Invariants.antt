@@ -1,11 +1,9 @@
 -- `row_list::list::passes` meets its contract. The loop's invariant: the numbers passed rise within the table, so that the rest decides. The measure is
 -- what is left of the list. Assumes nothing.
-use native.Mathlib.Omega.{arith}
-use mathlib.Core.Path.{◌≡◌, refl, sym, ◌∙◌}
-use Prim.Native.Nat.{◌-◌, ◌≤◌, ◌<◌}
+use mathlib.Core.Path.{◌≡◌}
+use Prim.Native.Nat.{◌-◌, ◌≤◌}
 use lib.ListN.{length, drop}
 use Rattle.row_list.specs.RowList.{list_limit, rises_within}
-use Rattle.row_list.proofs.RowListLaws.{passes_empty, passes_long, passes_by, rises-low, rises-past, rises_next, rises-none}
 use Rattle.row_list.proofs.list.passes.Given as goal
 
 abbrev pub invariant-loop-place : goal.invariant-loop-place

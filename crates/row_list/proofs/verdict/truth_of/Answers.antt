@@ -1,5 +1,4 @@
 -- `row_list::verdict::truth_of` meets its contract: a byte of 1 is a truth, any other and a missing one is none. Assumes nothing.
-use borrow.Author.Rules.{rules}
 use borrow.Author.Tests.{eq-eqb, ne_eqb}
 use lib.ListN.{get_or-eq_default}
 use Rattle.row_list.proofs.verdict.truth_of.Goals as goal

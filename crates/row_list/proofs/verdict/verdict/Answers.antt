@@ -1,12 +1,10 @@
-use borrow.Author.Rules.{rules}
 use native.Mathlib.Omega.{arith}
 use mathlib.Core.Path.{◌≡◌, sym, ◌∙◌}
-use Prim.Native.Nat.{◌-◌, ◌≤◌, min}
-use lib.ListN.{length, get_or}
-use Rattle.row_list.specs.RowList.{list_limit}
+use Prim.Native.Nat.{◌-◌}
+use lib.ListN.{get_or}
 use Rattle.row_list.specs.Truths.{truth_at}
 use Rattle.row_list.proofs.TruthsLaws.{byte_small}
-use Rattle.row_list.proofs.VerdictLaws.{bits_from, bits_none, bits-whole, bits-more, bits-room}
+use Rattle.row_list.proofs.VerdictLaws.{bits_none, bits-whole, bits-more, bits-room}
 use Rattle.row_list.proofs.verdict.verdict.Goals as goal
 
 pub loop-left-init : goal.loop-left-init

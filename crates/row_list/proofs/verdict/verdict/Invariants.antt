@@ -1,14 +1,10 @@
 -- `row_list::verdict::verdict` meets its contract. The loop's invariant: the number has the bits of the numbers from the place on. The measure is the
 -- place. Assumes nothing.
-use borrow.Author.Rules.{rules}
-use native.Mathlib.Omega.{arith}
-use mathlib.Core.Path.{◌≡◌, sym, ◌∙◌}
-use Prim.Native.Nat.{◌-◌, ◌≤◌, min}
-use lib.ListN.{length, get_or}
+use mathlib.Core.Path.{◌≡◌}
+use Prim.Native.Nat.{◌≤◌, min}
+use lib.ListN.{length}
 use Rattle.row_list.specs.RowList.{list_limit}
-use Rattle.row_list.specs.Truths.{truth_at}
-use Rattle.row_list.proofs.TruthsLaws.{byte_small}
-use Rattle.row_list.proofs.VerdictLaws.{bits_from, bits_none, bits-whole, bits-more, bits-room}
+use Rattle.row_list.proofs.VerdictLaws.{bits_from}
 use Rattle.row_list.proofs.verdict.verdict.Given as goal
 
 abbrev pub invariant-loop-left : goal.invariant-loop-left

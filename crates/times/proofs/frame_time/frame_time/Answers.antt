@@ -1,5 +1,5 @@
 -- `times::frame_time::frame_time` meets its contract, by the one test. Assumes nothing.
-use Rattle.std.proofs.Common.{rules, le-leb}
+use Rattle.std.proofs.Common.{le-leb}
 use borrow.Author.Tests.{lt-leb}
 use Rattle.times.specs.FrameTime.{frame_time_of}
 use Rattle.times.proofs.frame_time.frame_time.Goals as goal

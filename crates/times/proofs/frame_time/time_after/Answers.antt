@@ -1,5 +1,5 @@
 -- `times::frame_time::time_after` meets its contract: the wrapped difference is the remainder. Assumes nothing.
-use Rattle.std.proofs.Common.{arith, rules}
+use Rattle.std.proofs.Common.{arith}
 use Rattle.meaning.specs.FrameTime.{frame_time}
 use Rattle.times.proofs.frame_time.time_after.Goals as goal
 

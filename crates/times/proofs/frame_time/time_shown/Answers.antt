@@ -1,5 +1,5 @@
 -- `times::frame_time::time_shown` meets its contract, by the one test. Assumes nothing.
-use Rattle.std.proofs.Common.{rules, le-leb}
+use Rattle.std.proofs.Common.{le-leb}
 use borrow.Author.Tests.{lt-leb}
 use Rattle.times.proofs.frame_time.time_shown.Goals as goal
 

@@ -1,5 +1,5 @@
 -- `times::interval::length_of` meets its contract, by the test for no end. Assumes nothing.
-use Rattle.std.proofs.Common.{arith, rules}
+use Rattle.std.proofs.Common.{arith}
 use Rattle.meaning.specs.Interval.{end_of}
 use Rattle.times.proofs.interval.length_of.Goals as goal
 

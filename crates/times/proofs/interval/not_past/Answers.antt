@@ -1,5 +1,5 @@
 -- `times::interval::not_past` meets its contract, by the test for no end. Assumes nothing.
-use Rattle.std.proofs.Common.{◌+◌, ◌≤◌, sym, arith, rules, le-leb}
+use Rattle.std.proofs.Common.{◌+◌, ◌≤◌, sym, arith, le-leb}
 use Rattle.meaning.specs.Interval.{end_of}
 use Rattle.times.proofs.GapLaws.{gap_told}
 use Rattle.times.proofs.interval.not_past.Goals as goal

@@ -1,5 +1,4 @@
 -- `times::interval::within` meets its contract: its two tests, one after the other. Assumes nothing.
-use Rattle.std.proofs.Common.{rules}
 use Rattle.times.proofs.interval.within.Goals as goal
 
 pub returns-then-past_by : goal.returns-then-past_by

@@ -1,5 +1,5 @@
 -- `times::mask::bit_set` meets its contract: a mask has no bit past its last. Assumes nothing.
-use Rattle.std.proofs.Common.{sym, rules}
+use Rattle.std.proofs.Common.{sym}
 use Rattle.times.proofs.MaskLaws.{bit_past}
 use Rattle.times.proofs.mask.bit_set.Goals as goal
 
