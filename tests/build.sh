@@ -231,7 +231,25 @@ not_portable 's/^; Function.*/%pair = type { i32, i32 }/' 'has data or a type of
 not_portable 's/alloca ptr, align 8/alloca { i64, i8 }, align 8/' 'has a struct or a vector'
 not_portable 's/alloca ptr, align 8/alloca <4 x i32>, align 16/' 'has a struct or a vector'
 not_portable 's/^define internal noundef zeroext i1/define internal { i64, i1 }/' 'has a struct or a vector'
-not_portable 's/load { i64, i64 }/load { ptr, i64 }/' 'has a struct or a vector'
+not_portable 's/load { i64, i64 }/load { ptr, i1 }/' 'has a struct or a vector'
+not_portable 's/alloca ptr, align 8/alloca { ptr, i64 }, align 8/' 'has a struct or a vector'
+not_portable 's/load { i64, i64 }, ptr %a0/load { i64, ptr }, ptr @pair/' 'has a struct or a vector'
+# A pair in memory lies there as on x86-64: it is read in two, each number at its place.
+read_in_two() {
+    sed "s/load { i64, i64 }/load { $1, $2 }/" "$work/good.bc" >"$work/module"
+    said=$(tools/portable "$work/module" 2>&1) || fail "tools/portable does not take a pair '$1, $2': $said"
+    for wanted in "%r1.first = load $1, ptr %a0, align 8" "%r1.place = getelementptr i8, ptr %a0, i64 $3" \
+        "%r1.second = load $2, ptr %r1.place, align $4" "%r1.half = insertvalue { $1, $2 } undef, $1 %r1.first, 0" \
+        "%r1 = insertvalue { $1, $2 } %r1.half, $2 %r1.second, 1"; do
+        [[ $said == *"  $wanted"$'\n'* ]] || fail "tools/portable reads a pair '$1, $2' without '$wanted'"
+    done
+    [[ $said != *"load {"* ]] || fail "tools/portable leaves a pair '$1, $2' read as a whole"
+}
+read_in_two ptr i64 8 8
+read_in_two i8 ptr 8 8
+read_in_two i8 i32 4 4
+read_in_two i32 i32 4 4
+read_in_two i8 i16 2 2
 not_portable 's/getelementptr inbounds nuw i8/getelementptr inbounds nuw ptr/' 'has a place that is not counted in bytes'
 not_portable 's/%r5 = icmp.*/%r5 = fcmp olt double 1.0, 2.0/' "has 'fcmp'"
 not_portable 's/alloca ptr, align 8/alloca i128, align 8/' "has 'i128'"

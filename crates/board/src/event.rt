@@ -1,5 +1,4 @@
-// One event or heartbeat for C. The record stays where it is and is changed there. It is put back before the answer is told apart, so that its arrays do
-// not stand on the stack once more.
+// One event or heartbeat for C. The record stays where it is and is changed there.
 
 ghost use Rattle.monitor.specs.Step as Step;
 ghost use Rattle.soundness.specs.Setup.{setup_of};
@@ -8,6 +7,7 @@ ghost use Rattle.board.specs.Left.{CallLeaves};
 use codes::code::code;
 use monitor::step;
 use soundness::record::Record;
+use soundness::setup::Setup;
 
 // Refusals 1 to 3, 10, 11, 4, then 7, 6, 5, or the verdict; of a heartbeat, that the clock moved.
 pub fn muk_event(
@@ -21,7 +21,5 @@ pub fn muk_event(
     ensures { CallLeaves (setup_of table.now list.now) store.old kept.old (Step.event time mask)
         result kept.new store.new }
 {
-    let judged = step::event(table, list, store, *kept, time, mask);
-    *kept = judged.record;
-    code(judged.answer)
+    code(step::event(Setup { table, list }, store, kept, time, mask))
 }

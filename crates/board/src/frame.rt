@@ -7,6 +7,7 @@ ghost use Rattle.board.specs.Left.{CallLeaves};
 use codes::code::code;
 use monitor::step;
 use soundness::record::Record;
+use soundness::setup::Setup;
 
 // What `muk_event` answers at that time.
 pub fn muk_frame(
@@ -20,7 +21,5 @@ pub fn muk_frame(
     ensures { CallLeaves (setup_of table.now list.now) store.old kept.old (Step.frame counter mask)
         result kept.new store.new }
 {
-    let judged = step::frame(table, list, store, *kept, counter, mask);
-    *kept = judged.record;
-    code(judged.answer)
+    code(step::frame(Setup { table, list }, store, kept, counter, mask))
 }

@@ -4,7 +4,6 @@ ghost use Rattle.board.specs.Numbers.{LineLeaves};
 
 use codes::code::refusal_code;
 use lines::frame;
-use lines::frame::FrameFound;
 
 // The end, a frame, whose counter and mask are written, or refusal 8 or 9. The place becomes the next one. Any place may be asked for.
 pub fn muk_read_frame(text: &[u8], place: &mut u64, counter: &mut u16, mask: &mut u32) -> u32
@@ -13,17 +12,13 @@ pub fn muk_read_frame(text: &[u8], place: &mut u64, counter: &mut u16, mask: &mu
 {
     let read = frame::read_frame(text, *place as usize);
     *place = read.next as u64;
-    let found = read.found;
-    match found {
-        FrameFound::End => 0,
-        FrameFound::Frame {
-            counter: shown,
-            mask: pads,
-        } => {
-            *counter = shown;
-            *mask = pads;
+    match read.found {
+        None => 0,
+        Some(Ok(frame)) => {
+            *counter = frame.counter;
+            *mask = frame.mask;
             1
         }
-        FrameFound::Refused(fault) => refusal_code(fault),
+        Some(Err(fault)) => refusal_code(fault),
     }
 }

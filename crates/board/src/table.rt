@@ -4,22 +4,17 @@ ghost use Rattle.board.specs.Numbers.{CheckLeaves};
 
 use codes::code::refusal_code;
 use rules::table;
-use rules::table::Checked;
 
 // Refusals 1 to 3; or 0, and the row count and the need are written.
 pub fn muk_check(table: &[u32], rows: &mut u32, need: &mut u64) -> u32
     ensures { CheckLeaves table.now rows.old need.old result rows.new need.new }
 {
-    let checked = table::check(table);
-    match checked {
-        Checked::Passed {
-            rows: counted,
-            need: words,
-        } => {
-            *rows = counted;
-            *need = words;
+    match table::check(table) {
+        Ok(passed) => {
+            *rows = passed.rows;
+            *need = passed.need;
             0
         }
-        Checked::Refused(fault) => refusal_code(fault),
+        Err(fault) => refusal_code(fault),
     }
 }

@@ -12,7 +12,6 @@ use Rattle.promises.specs.LineTimes.{replies}
 use Rattle.codes.specs.Code.{code_of}
 use Rattle.call_runs.specs.Run as Run
 use Rattle.call_runs.specs.Run.{calls_of, Ran, ran, run_of}
-use Rattle.call_runs.proofs.RunLaws.{calls-end}
 use Rattle.board_promises.specs.Calls.{standing}
 use Rattle.board_promises.specs.Runs.{calls_made, RunsAreTheStream}
 
@@ -33,7 +32,15 @@ run_streamed setup s (code ∷ codes) (c ∷ calls) zero least = absurd (omega a
 run_streamed setup s (code ∷ codes) (c ∷ calls) (suc n) least =
     ap (Run.code_then (code_of (call setup s c).reply)) (run_streamed setup (next setup s c) codes calls n (omega arith))
 
--- A call of two rows, by its place.
+-- The calls of two rows: how many, and each by its place.
+calls-end : (kind : ℕ → ℕ → Call) (numbers masks : List ℕ) → length (calls_of kind numbers masks) ≡ min (length numbers) (length masks)
+unfolding calls_of
+calls-end kind [] masks = omega arith
+calls-end kind (number ∷ numbers) [] = omega arith
+calls-end kind (number ∷ numbers) (mask ∷ masks) =
+    let shorter : length (calls_of kind numbers masks) ≡ min (length numbers) (length masks) = calls-end kind numbers masks in
+    omega arith
+
 call-at : (kind : ℕ → ℕ → Call) (numbers masks : List ℕ) (i : ℕ) (other : Call) → i < length numbers → i < length masks
     → get_or (calls_of kind numbers masks) i other ≡ kind (get_or numbers i 0) (get_or masks i 0)
 unfolding calls_of

@@ -5,7 +5,8 @@
 
 use call_runs::run::{run_events, run_frames};
 use monitor::start::start;
-use soundness::record::Record;
+use soundness::record::{Record, nothing_seen};
+use soundness::setup::Setup;
 use std::io;
 use std::io::Stdout;
 
@@ -38,176 +39,126 @@ const LIMIT: u64 = 281_474_976_710_655;
 
 fn main(rt: HostRuntime) -> io::Result<()> {
     let out = rt.stdout();
-    say(
-        out,
-        "-- events, one over the limit of time and one below the clock\n",
-    )?;
+    let since = Setup {
+        table: &SINCE,
+        list: &LAST_ROW,
+    };
+    println!(out; "-- events, one over the limit of time and one below the clock")?;
     let mut space = [9; WORDS];
     let store: &mut [u64] = &mut space;
-    let begun = start(&SINCE, &LAST_ROW, store);
-    let kept = events(
+    let mut kept = nothing_seen(0);
+    _ = start(since, store, &mut kept);
+    events(
         out,
-        &SINCE,
-        &LAST_ROW,
+        since,
         store,
-        begun.record,
+        &mut kept,
         &[1, 2, 3, LIMIT + 1, 2, 4],
         &[0, Q, P, P, P, P + Q],
     )?;
-    say(
-        out,
-        "-- on from there: by another table, by a list past the table, with an unsound clock, and as it was left\n",
+    println!(out;
+        "-- on from there: by another table, by a list past the table, with an unsound clock, and as it was left"
     )?;
-    events(out, &KIND_9, &LAST_ROW, store, kept, &[5, 6], &[P, P])?;
-    events(out, &SINCE, &[3], store, kept, &[5, 6], &[P, P])?;
-    events(
-        out,
-        &SINCE,
-        &LAST_ROW,
-        store,
-        at_clock(kept, 9),
-        &[5, 6],
-        &[P, P],
-    )?;
-    let last = events(
-        out,
-        &SINCE,
-        &LAST_ROW,
-        store,
-        kept,
-        &[5, LIMIT - 10],
-        &[P, Q],
-    )?;
-    say(
-        out,
-        "-- frames from there, p judged too, one a heartbeat and one over the limit of time\n",
+    let another = Setup {
+        table: &KIND_9,
+        list: &LAST_ROW,
+    };
+    events(out, another, store, &mut kept, &[5, 6], &[P, P])?;
+    let past = Setup {
+        table: &SINCE,
+        list: &[3],
+    };
+    events(out, past, store, &mut kept, &[5, 6], &[P, P])?;
+    let mut unsound = Record { clock: 9, ..kept };
+    events(out, since, store, &mut unsound, &[5, 6], &[P, P])?;
+    events(out, since, store, &mut kept, &[5, LIMIT - 10], &[P, Q])?;
+    println!(out;
+        "-- frames from there, p judged too, one a heartbeat and one over the limit of time"
     )?;
     frames(
         out,
         store,
-        last,
+        &mut kept,
         &[65_528, 65_530, 3, 65_535],
         &[P, HEARTBEAT, P, P],
     )?;
-    say(
-        out,
-        "-- heartbeats: before any event, after two, and before two more, one refused\n",
-    )?;
-    begun_again(out, &[7], &[HEARTBEAT + P])?;
-    begun_again(out, &[1, 2, 4], &[Q, P, HEARTBEAT + Q])?;
-    begun_again(out, &[1, 2, 4, 3, 4], &[Q, P, HEARTBEAT + Q, P, P])?;
-    say(
-        out,
-        "-- fewer masks, fewer times, no masks, fewer places for answers\n",
-    )?;
-    begun_again(out, &[1, 2, 3, 4], &[0, Q, P])?;
-    begun_again(out, &[1, 2], &[0, Q, P, P])?;
-    begun_again(out, &[1, 2], &[])?;
+    println!(out; "-- heartbeats: before any event, after two, and before two more, one refused")?;
+    begun_again(out, since, &[7], &[HEARTBEAT + P])?;
+    begun_again(out, since, &[1, 2, 4], &[Q, P, HEARTBEAT + Q])?;
+    begun_again(out, since, &[1, 2, 4, 3, 4], &[Q, P, HEARTBEAT + Q, P, P])?;
+    println!(out; "-- fewer masks, fewer times, no masks, fewer places for answers")?;
+    begun_again(out, since, &[1, 2, 3, 4], &[0, Q, P])?;
+    begun_again(out, since, &[1, 2], &[0, Q, P, P])?;
+    begun_again(out, since, &[1, 2], &[])?;
     begun_again(
         out,
+        since,
         &[1, 1, 1, 1, 2, 2, 2, 2, 3, 4],
         &[Q, Q, 0, 0, 0, 0, 0, Q, P, P],
     )
 }
 
-// The record with another clock, which its spans need not fit.
-fn at_clock(kept: Record, clock: u64) -> Record {
-    let mut changed = kept;
-    changed.clock = clock;
-    changed
-}
-
-fn begun_again(out: Stdout, times: &[u64], masks: &[u32]) -> io::Result<()> {
+fn begun_again(out: Stdout, setup: Setup, times: &[u64], masks: &[u32]) -> io::Result<()> {
     let mut space = [9; WORDS];
     let store: &mut [u64] = &mut space;
-    let begun = start(&SINCE, &LAST_ROW, store);
-    events(out, &SINCE, &LAST_ROW, store, begun.record, times, masks)?;
-    Ok(())
+    let mut kept = nothing_seen(0);
+    _ = start(setup, store, &mut kept);
+    events(out, setup, store, &mut kept, times, masks)
 }
 
 fn events(
     out: Stdout,
-    table: &[u32],
-    list: &[u32],
+    setup: Setup,
     store: &mut [u64],
-    found: Record,
+    kept: &mut Record,
     times: &[u64],
     masks: &[u32],
-) -> io::Result<Record> {
+) -> io::Result<()> {
     let mut answers = [UNWRITTEN; PLACES];
-    let kept = run_events(table, list, store, found, times, masks, &mut answers);
-    told(out, store, kept, &answers)?;
-    Ok(kept)
+    run_events(setup, store, kept, times, masks, &mut answers);
+    told(out, store, kept, &answers)
 }
 
 fn frames(
     out: Stdout,
     store: &mut [u64],
-    found: Record,
+    kept: &mut Record,
     counters: &[u16],
     masks: &[u32],
 ) -> io::Result<()> {
+    let setup = Setup {
+        table: &SINCE,
+        list: &BOTH,
+    };
     let mut answers = [UNWRITTEN; PLACES];
-    let kept = run_frames(&SINCE, &BOTH, store, found, counters, masks, &mut answers);
+    run_frames(setup, store, kept, counters, masks, &mut answers);
     told(out, store, kept, &answers)
 }
 
-fn told(out: Stdout, store: &[u64], kept: Record, answers: &[u32; PLACES]) -> io::Result<()> {
-    say(out, "codes")?;
-    let mut at = 0;
-    while at < PLACES {
-        code_told(out, answers[at])?;
-        at += 1;
+// The codes; seen, clock, last and rows; the truth, the span count and the first place of the row that is judged; and the words.
+fn told(out: Stdout, store: &[u64], kept: &Record, answers: &[u32]) -> io::Result<()> {
+    print!(out; "codes")?;
+    for code in answers {
+        if *code != UNWRITTEN {
+            print!(out; " {code:08x}")?;
+        }
     }
-    record_told(out, kept)?;
-    words_told(out, store)
-}
-
-fn code_told(out: Stdout, code: u32) -> io::Result<()> {
-    if code != UNWRITTEN {
-        say(out, " ")?;
-        print!(out; "{code:08x}")?;
+    let Record {
+        seen,
+        clock,
+        last,
+        rows,
+        truths,
+        counts,
+        firsts,
+    } = kept;
+    print!(out;
+        "\n  record: {seen} {clock} {last} {rows} {} {} {}",
+        truths[2], counts[2], firsts[2]
+    )?;
+    print!(out; "\n  store:")?;
+    for word in store {
+        print!(out; " {word}")?;
     }
-    Ok(())
-}
-
-// Seen, clock, last and rows; the truth, the span count and the first place of the row that is judged.
-fn record_told(out: Stdout, kept: Record) -> io::Result<()> {
-    let truths = kept.truths;
-    let counts = kept.counts;
-    let firsts = kept.firsts;
-    say(out, "\n  record:")?;
-    byte(out, kept.seen)?;
-    number(out, kept.clock)?;
-    number(out, kept.last)?;
-    count(out, kept.rows)?;
-    byte(out, truths[2])?;
-    count(out, counts[2])?;
-    count(out, firsts[2])
-}
-
-fn words_told(out: Stdout, store: &[u64]) -> io::Result<()> {
-    say(out, "\n  store:")?;
-    let mut at = 0;
-    while at < store.len() {
-        number(out, store[at])?;
-        at += 1;
-    }
-    say(out, "\n")
-}
-
-fn byte(out: Stdout, n: u8) -> io::Result<()> {
-    number(out, n as u64)
-}
-
-fn count(out: Stdout, n: u32) -> io::Result<()> {
-    number(out, n as u64)
-}
-
-fn number(out: Stdout, n: u64) -> io::Result<()> {
-    print!(out; " {n}")
-}
-
-fn say(out: Stdout, text: &str) -> io::Result<()> {
-    print!(out; "{text}")
+    println!(out)
 }

@@ -1,4 +1,2 @@
--- What a reader must believe of a run of calls. `Call` and `Turns` are the crate's own: no public contract cites them.
+-- What a reader must believe of a run of calls.
 pub mod Run
-pub mod Call
-pub mod Turns

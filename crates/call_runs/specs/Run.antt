@@ -6,7 +6,7 @@ use Rattle.monitor.specs.Step.{Call, Outcome, step_of}
 use Rattle.codes.specs.Code.{code_of}
 
 -- A call of each number and its mask; the shorter row decides how many. The number is an event's time or a frame's counter.
-unfoldable pub calls_of : (ℕ → ℕ → Call) → List ℕ → List ℕ → List Call
+unfoldable pub calls_of : {A : Type 0} → (A → ℕ → Call) → List A → List ℕ → List Call
 calls_of call [] masks = []
 calls_of call (number ∷ numbers) [] = []
 calls_of call (number ∷ numbers) (mask ∷ masks) = call number mask ∷ calls_of call numbers masks

@@ -2,5 +2,5 @@
 
 #![tactic(auto)]
 
-mod call;
 pub mod run;
+mod stamp;

@@ -5,8 +5,7 @@ ghost use Rattle.refusals.specs.Refusals.{refused};
 ghost use Rattle.monitor.specs.Step.{said};
 ghost use Rattle.codes.specs.Code.{refusal_code, code_of};
 
-use monitor::answer::Answer;
-use refusals::refusal;
+use monitor::answer::Accepted;
 use refusals::refusal::Refusal;
 
 // Sixteen bits are left for a verdict.
@@ -16,13 +15,13 @@ pub const VERDICT_ROOM: u32 = 65_536;
 pub const MOVED_CODE: u32 = 2_147_483_648;
 
 // The verdict; that the clock moved; or the refusal's code.
-pub fn code(answer: Answer) -> u32
+pub fn code(answer: Result<Accepted, Refusal>) -> u32
     ensures { result ≡ code_of (said answer) }
 {
     match answer {
-        Answer::Verdict(number) => number as u32,
-        Answer::ClockMoved => MOVED_CODE,
-        Answer::Refused(fault) => refusal_code(fault),
+        Ok(Accepted::Verdict(number)) => u32::from(number),
+        Ok(Accepted::ClockMoved) => MOVED_CODE,
+        Err(fault) => refusal_code(fault),
     }
 }
 
@@ -30,5 +29,5 @@ pub fn code(answer: Answer) -> u32
 pub fn refusal_code(fault: Refusal) -> u32
     ensures { result ≡ refusal_code (refused fault) }
 {
-    refusal::number(fault) * VERDICT_ROOM + refusal::row(fault) % VERDICT_ROOM
+    fault.number() * VERDICT_ROOM + fault.row() % VERDICT_ROOM
 }

@@ -1,13 +1,12 @@
--- Which rows are marked after each of the private functions; and marks on the listed rows, as the loop goes.
+-- Which rows are marked after each of the private functions.
 use mathlib.Core.Bool.{Bool, true, false}
 use mathlib.Core.List.{List, [], ◌∷◌}
 use mathlib.Core.Logic.{◌⊎◌, inl, inr, ⊎_elim}
 use mathlib.Core.Path.{◌≡◌, refl, sym, subst, ◌∙◌}
-use Prim.Native.Nat.{ℕ, suc, ◌+◌, ◌≤◌, ◌<◌}
-use native.Mathlib.Numerals.{add-one}
+use Prim.Native.Nat.{ℕ, suc, ◌≤◌, ◌<◌}
 use native.Mathlib.Omega.{arith}
-use lib.ListN.{length, get_or, set, drop, length-set, drop_of_length-le}
-use lib.Seq.{drop-cons, get_or-set_same, get_or-set_other}
+use lib.ListN.{length, get_or, set, length-set}
+use lib.Seq.{get_or-set_same, get_or-set_other}
 use borrow.Author.Tests.{lt-ltb, le-ltb}
 use Rattle.meaning.proofs.SpansLaws.{le_or_lt}
 use Rattle.meaning.proofs.Tells.{tells_eqb, tells_decided, told_true, told_false}
@@ -151,14 +150,3 @@ listed_added rows (at ∷ list) marks room =
     (λ row. somewhere (Below rows row) at list)
     (λ row. here_or_later (Below rows row) at list)
     (added_both marks between (marked_listed rows list between) first (listed_added rows list between (omega (arith, first.size))))
-
--- As the loop goes.
-module _ (rows : ℕ) (list : List ℕ) (marks : List Bool) (place : ℕ) where
-  pub listed_next : place < length list
-      → marked_listed rows (drop place list) marks ≡ marked_listed rows (drop (place + 1) list) (marked_below rows (get_or list place 0) marks)
-  unfolding marked_listed
-  listed_next within = rw (drop-cons list place 0 within, add-one place)
-
-  pub listed-none : length list ≤ place → marked_listed rows (drop place list) marks ≡ marks
-  unfolding marked_listed
-  listed-none past = rw (drop_of_length-le list past)

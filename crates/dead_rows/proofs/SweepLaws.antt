@@ -105,7 +105,8 @@ module _ (table list : List ℕ) (rows : ℕ) where
       }
 
   -- A row that is marked marks the rows that it names; one that is not is the lowest dead one so far.
-  module _ (row : ℕ) (marks : List Bool) (dead : ℕ) (swept : Swept table list rows (suc row) marks dead) (lower : row < rows) (few : rows ≤ row_limit) where
+  module _ (row next : ℕ) (marks : List Bool) (dead : ℕ) (swept : Swept table list rows next marks dead)
+      (after-row : next ≡ suc row) (lower : row < rows) (few : rows ≤ row_limit) where
     pub swept-marked : Marked marks row → Swept table list rows row (marked_named row (numbers_at table row) marks) dead
     swept-marked marked =
         let added = named_added (numbers_at table row) row marks (omega (arith, swept.size)) in
@@ -118,7 +119,7 @@ module _ (table list : List ℕ) (rows : ℕ) where
               (λ above.
               added.stays named-row
               (⊎_elim
-              (λ before. swept.named from named-row above within before names below)
+              (λ before. swept.named from named-row (omega arith) within before names below)
               (λ is. absurd (omega (arith, is.1)))
               (added.only from from-marked)))
               (eq-or-lt_of_le past);
@@ -136,7 +137,7 @@ module _ (table list : List ℕ) (rows : ℕ) where
               (added.only r r-marked);
           few = swept.few;
           alive = λ r past within.
-              added.stays r (⊎_elim (λ here. subst (Marked marks) here marked) (λ above. swept.alive r above within) (eq-or-lt_of_le past));
+              added.stays r (⊎_elim (λ here. subst (Marked marks) here marked) (λ above. swept.alive r (omega arith) within) (eq-or-lt_of_le past));
           from_here = λ some. omega (arith, swept.from_here some);
           unmarked = λ some after.
               ⊎_elim (swept.unmarked some) (λ is. omega (arith, is.1, swept.from_here some)) (added.only dead after);
@@ -150,7 +151,7 @@ module _ (table list : List ℕ) (rows : ℕ) where
           named = λ from named-row past within from-marked names below.
               ⊎_elim
               (λ here. absurd (none (subst (Marked marks) (sym here) from-marked)))
-              (λ above. swept.named from named-row above within from-marked names below)
+              (λ above. swept.named from named-row (omega arith) within from-marked names below)
               (eq-or-lt_of_le past);
           only = swept.only;
           few = omega arith;

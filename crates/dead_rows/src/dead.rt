@@ -13,13 +13,11 @@ use rules::numbers::numbers_at;
 pub fn lowest_dead(table: &[u32], list: &[u32], rows: u32) -> u32
     ensures { result ≡ lowest_dead table.now list.now (min rows row_limit) }
 {
-    let count = within_limit(rows);
+    let count = rows.min(ROW_LIMIT as u32);
     let mut marks = [false; ROW_LIMIT];
     mark_listed(&mut marks, list, count);
     let mut dead = count;
-    let mut row = count;
-    while 0 < row {
-        row -= 1;
+    for row in (0..count).rev() {
         if marks[row as usize] {
             mark_named(&mut marks, numbers_at(table, row as usize), row);
         } else {
@@ -27,14 +25,4 @@ pub fn lowest_dead(table: &[u32], list: &[u32], rows: u32) -> u32
         }
     }
     dead
-}
-
-// How many of so many rows have their mark.
-fn within_limit(rows: u32) -> u32
-    ensures { result ≡ min rows row_limit }
-{
-    if (rows as usize) < ROW_LIMIT {
-        return rows;
-    }
-    ROW_LIMIT as u32
 }

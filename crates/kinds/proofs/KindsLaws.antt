@@ -1,35 +1,43 @@
 -- Laws of the table of kinds: what a rule asks of the line that has it, tests over all lines, and what a number that fits its use is.
 use mathlib.Core.Bool.{Bool, true, false, not, ◌&&◌}
 use mathlib.Core.List.{List, [], ◌∷◌}
-use mathlib.Core.Path.{◌≡◌, refl, sym}
+use mathlib.Core.Path.{◌≡◌, refl, sym, ap}
 use Prim.Native.Nat.{ℕ, zero, suc, ◌≤◌, ◌<◌}
 use native.Mathlib.Omega.{arith}
 use native.Mathlib.Nat.{le_of_suc-le-suc, not-suc-le-zero}
 use lib.ListN.{length, get_or, get_or-eq_default}
+use borrow.Author.Tests.{ltb-false}
+use Rattle.std.specs.Prelude.{Result, Ok, Err}
+use Rattle.std.specs.Result.{result_unwrap_or}
 use Rattle.meaning.proofs.Tells.{Tells, tells_ltb, tells_eqb}
-use Rattle.meaning.proofs.Truths.{zero_not_one, no_truth, and_left, and_right}
+use Rattle.meaning.proofs.Truths.{and_left, and_right}
 use Rattle.meaning.specs.Heartbeat.{heartbeat_bit}
-use Rattle.kinds.specs.Kinds.{Rule, plain, stretch, Kind, kind, kinds, kind_at, has_stretch, owns_stretch, columns_of, plain_of, is_lower, fits}
+use Rattle.kinds.specs.Kinds.{Rule, plain, stretch, Kind, kind, kinds, kind_at, owns_stretch, number_of, Names, rule_line, is_lower, fits}
+use Rattle.kinds.specs.declared.kind.Kind as Named
+use Rattle.kinds.specs.declared.kind.Kind.TheVariants as named
+use Rattle.kinds.specs.declared.kind.UnknownKind.{UnknownKind}
 use Rattle.kinds.specs.declared.table.Use.{Use}
 use Rattle.kinds.specs.declared.table.Use.TheVariants.{Unused, Bit, Lower, Limit}
+use Rattle.kinds.specs.declared.rule.Rule.TheVariants as says
 use Rattle.kinds.specs.declared.plain.Plain.{Plain}
 use Rattle.kinds.specs.declared.stretch.Keep.{Keep}
 use Rattle.kinds.specs.declared.stretch.Keep.TheVariants.{Unasked, WhileX, WhileY}
 use Rattle.kinds.specs.declared.stretch.Feed.{Feed}
 use Rattle.kinds.specs.declared.stretch.Feed.TheVariants.{FromX, FromY}
+use Rattle.kinds.specs.declared.stretch.Stretch.{Stretch}
 
 -- What `kind_at` reads where a kind has no line.
 abbrev no_line : Kind
 no_line = kind Unused Unused Unused Unused (plain Plain.Truth)
 
--- What a row says, by the column that tells whether it owns a stretch.
-pub owned_rule : (rule : Rule) → has_stretch rule ≡ true → rule ≡ stretch (columns_of rule)
-owned_rule (plain says) h = absurd (no_truth h)
-owned_rule (stretch columns) h = refl
+-- What a row says, from the code's answer.
+pub plain-said : (rule : Rule) {said : Plain} → says.Plain said ≡ rule_line rule → rule ≡ plain said
+plain-said (plain said) h = cc
+plain-said (stretch columns) h = cc
 
-pub bare_rule : (rule : Rule) → has_stretch rule ≡ false → rule ≡ plain (plain_of rule)
-bare_rule (plain says) h = refl
-bare_rule (stretch columns) h = absurd (no_truth (sym h))
+pub stretch-said : (rule : Rule) {columns : Stretch} → says.Stretch columns ≡ rule_line rule → rule ≡ stretch columns
+stretch-said (plain said) h = cc
+stretch-said (stretch columns) h = cc
 
 -- What a rule asks of the line that has it: the rows that it speaks of are used as lower rows, and its bit as a bit.
 abbrev pub is_bit : Use → Bool
@@ -74,10 +82,20 @@ pub kinds_pass : (test : ℕ → Kind → Bool) → every test kinds ≡ true �
 unfolding kind_at
 kinds_pass test computed n lower = every-at test kinds n _ computed lower
 
--- A kind that has no line has no stretch.
-pub past_bare : (n : ℕ) → length kinds ≤ n → owns_stretch n ≡ false
+-- Past the lines there is none, and so no stretch.
+past_line : (n : ℕ) → length kinds ≤ n → kind_at n ≡ no_line
 unfolding kind_at
-past_bare n past = rw (get_or-eq_default kinds no_line past)
+past_line n past = get_or-eq_default kinds no_line past
+
+pub past_bare : (n : ℕ) → length kinds ≤ n → owns_stretch n ≡ false
+past_bare n past = rw (past_line n past)
+
+-- The kind that a number names, and that of true where it names none, has the line of the number.
+pub line_read : (number : ℕ) (answer : Result Named.Kind UnknownKind) → Names number answer
+    → kind_at (number_of (result_unwrap_or answer named.Truth)) ≡ kind_at number
+unfolding kind_at
+line_read number (Ok k) names = ap kind_at names
+line_read number (Err unknown) names = sym (past_line number (ltb-false number (length kinds) names.1))
 
 -- What a number that fits its use is.
 abbrev pub Fits : ℕ → Use → ℕ → Type 0
@@ -94,23 +112,23 @@ fits_told r Limit number = record { sound = λ _. tt; complete = λ _. tt }
 
 -- Which use is that of a lower row.
 pub lower_use_told : (usage : Use) → Tells (is_lower usage) (usage ≡ Lower)
-lower_use_told Unused = record { sound = λ none. absurd none; complete = λ e. zero_not_one cc }
-lower_use_told Bit = record { sound = λ none. absurd none; complete = λ e. zero_not_one cc }
+lower_use_told Unused = record { sound = λ none. absurd none; complete = λ e. (cc) }
+lower_use_told Bit = record { sound = λ none. absurd none; complete = λ e. (cc) }
 lower_use_told Lower = record { sound = λ _. refl; complete = λ _. tt }
-lower_use_told Limit = record { sound = λ none. absurd none; complete = λ e. zero_not_one cc }
+lower_use_told Limit = record { sound = λ none. absurd none; complete = λ e. (cc) }
 
 -- A number that is used as a lower row is lower, and one that is used as a bit is below the heartbeat's.
 pub lower_told : (r : ℕ) (usage : Use) (number : ℕ) → is_lower usage ≡ true → Fits r usage number → number < r
-lower_told r Unused number h fit = absurd (no_truth h)
-lower_told r Bit number h fit = absurd (no_truth h)
+lower_told r Unused number h fit = cc
+lower_told r Bit number h fit = cc
 lower_told r Lower number h fit = fit
-lower_told r Limit number h fit = absurd (no_truth h)
+lower_told r Limit number h fit = cc
 
 pub bit-told : (r : ℕ) (usage : Use) (number : ℕ) → is_bit usage ≡ true → Fits r usage number → number < heartbeat_bit
-bit-told r Unused number h fit = absurd (no_truth h)
+bit-told r Unused number h fit = cc
 bit-told r Bit number h fit = fit
-bit-told r Lower number h fit = absurd (no_truth h)
-bit-told r Limit number h fit = absurd (no_truth h)
+bit-told r Lower number h fit = cc
+bit-told r Limit number h fit = cc
 
 -- A number that is no limit is below every bound that is over 30 and not below the row.
 abbrev pub is_limit : Use → Bool
@@ -123,4 +141,4 @@ pub no_limit_below : (r most : ℕ) (usage : Use) (number : ℕ) → r ≤ most 
 no_limit_below r most Unused number few wide h fit = omega arith
 no_limit_below r most Bit number few wide h fit = omega arith
 no_limit_below r most Lower number few wide h fit = omega arith
-no_limit_below r most Limit number few wide h fit = absurd (no_truth h)
+no_limit_below r most Limit number few wide h fit = cc

@@ -1,2 +1,3 @@
--- Laws of the table of kinds, for its functions and for callers. The functions' own proofs stand in folders of their names.
+-- Laws of the table of kinds, for its functions and for callers.
 pub mod KindsLaws
+pub mod Outcomes

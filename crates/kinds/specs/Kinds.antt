@@ -1,10 +1,15 @@
--- The one table of kinds (document 01, "The rule table"; 7 and 8 by document 02, E1). A new kind is a line here and in src/table.rt, and a case of `Plain`
--- where it is no stretch.
-use Rattle.std.specs.Prelude.{Bool, true, false, cond, List, [], ◌∷◌, ℕ, eqb, ltb, length, get_or}
+-- The one table of kinds (document 01, "The rule table"; 7 and 8 by document 02, E1). A new kind is a line here and in src/table.rt, a case of `Kind` in
+-- src/kind.rt with its number, and a case of `Plain` where it is no stretch.
+use Rattle.std.specs.Prelude.{Bool, true, false, List, [], ◌∷◌, ◌≡◌, ℕ, eqb, ltb, length, get_or, Result, MatchResult}
 use Rattle.meaning.specs.Heartbeat.{heartbeat_bit}
 use Rattle.kinds.specs.declared.table.Use.{Use}
 use Rattle.kinds.specs.declared.table.Use.TheVariants.{Unused, Bit, Lower, Limit}
 use Rattle.kinds.specs.declared.table.KindLine.{KindLine}
+use Rattle.kinds.specs.declared.kind.Kind as Named
+use Rattle.kinds.specs.declared.kind.Kind.TheVariants as named
+use Rattle.kinds.specs.declared.kind.UnknownKind.{UnknownKind}
+use Rattle.kinds.specs.declared.rule.Rule as Says
+use Rattle.kinds.specs.declared.rule.Rule.TheVariants as says
 use Rattle.kinds.specs.declared.plain.Plain.{Plain}
 use Rattle.kinds.specs.declared.stretch.Keep.TheVariants.{Unasked, WhileX}
 use Rattle.kinds.specs.declared.stretch.Feed.TheVariants.{FromX, FromY}
@@ -71,37 +76,34 @@ kind_at k = get_or kinds k (kind Unused Unused Unused Unused (plain Plain.Truth)
 
 -- "each since row owns its own stretch": the table tells which kinds do, by what their rows say.
 abbrev pub has_stretch : Rule → Bool
-has_stretch (plain says) = false
+has_stretch (plain said) = false
 has_stretch (stretch columns) = true
 
 abbrev pub owns_stretch : ℕ → Bool
 owns_stretch k = has_stretch (kind_at k).rule
 
--- The columns as the code holds them; a kind without a stretch has some that nothing reads.
-abbrev pub columns_of : Rule → Stretch
-columns_of (plain says) = once_x
-columns_of (stretch columns) = columns
+-- The number of a kind as the code has it, and which kind a number names: that with this number, or none, where no kind has a line.
+abbrev pub number_of : Named.Kind → ℕ
+number_of named.Truth = 0
+number_of named.Bit = 1
+number_of named.Negation = 2
+number_of named.Both = 3
+number_of named.Either = 4
+number_of named.Previous = 5
+number_of named.Since = 6
+number_of named.Once = 7
+number_of named.Always = 8
 
--- What a row without a stretch says; of one with a stretch nothing reads it.
-abbrev pub plain_of : Rule → Plain
-plain_of (plain says) = says
-plain_of (stretch columns) = Plain.Truth
+abbrev pub Names : ℕ → Result Named.Kind UnknownKind → Type 0
+Names number answer = MatchResult answer (λ kind. number_of kind ≡ number) (λ unknown. (unknown.0 ≡ number) × (known number ≡ false))
 
--- The line as the code holds it, and what it says of the number at a field; the fields are x, y, a and b, from 1 on.
+-- What a row says, and the line of a kind, as the code has them.
+abbrev pub rule_line : Rule → Says.Rule
+rule_line (plain said) = says.Plain said
+rule_line (stretch columns) = says.Stretch columns
+
 abbrev pub kind_line : Kind → KindLine
-kind_line k =
-    record {
-      0 = k.x;
-      1 = k.y;
-      2 = k.a;
-      3 = k.b;
-      4 = has_stretch k.rule;
-      5 = columns_of k.rule;
-      6 = plain_of k.rule;
-    }
-
-unfoldable pub use_of : KindLine → ℕ → Use
-use_of line field = cond (eqb field 1) line.0 (cond (eqb field 2) line.1 (cond (eqb field 3) line.2 line.3))
+kind_line k = record { x = k.x; y = k.y; a = k.a; b = k.b; rule = rule_line k.rule }
 
 -- Which numbers name a lower row.
 abbrev pub is_lower : Use → Bool

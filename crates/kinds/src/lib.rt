@@ -2,6 +2,8 @@
 
 #![tactic(auto)]
 
+pub mod kind;
 pub mod plain;
+pub mod rule;
 pub mod stretch;
 pub mod table;

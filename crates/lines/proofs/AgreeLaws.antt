@@ -8,25 +8,33 @@ use borrow.Author.Tests.{lt-leb, ne_eqb, ltb-true, ltb-false}
 use lib.Dec.{leb, ltb, eqb}
 use lib.ListN.{length, take, drop, replicate, length-drop}
 use lib.Seq.{get_or-take, get_or-drop, length-take-le}
+use Rattle.std.specs.Prelude.{Some, None, Ok, Err}
 use Rattle.refusals.specs.Refusals.{Refused, refused}
 use Rattle.refusals.specs.declared.refusal.Refusal.TheVariants.{BadLine}
 use Rattle.meaning.proofs.Truths.{and_false}
 use Rattle.row_list.specs.RowList.{list_limit}
-use Rattle.lines.specs.declared.line.LineFound.{LineFound}
-use Rattle.lines.specs.declared.line.LineFound.TheVariants as found
 use Rattle.lines.specs.Digits.{byte_at, byte_digits, digits_at, hex_at}
-use Rattle.lines.specs.Line.{line_feed, right_at, sum_at, past_first, past_line_feed, digits_of, line_at}
+use Rattle.lines.specs.Line.{line_feed, right_at, sum_at, past_first, past_line_feed, digits_of, Found, line_at}
 use Rattle.lines.specs.Read.{LineReply, at_end, good_line, bad_line, bytes_of, numbers_read, line_reply, read_line}
 use Rattle.lines.specs.ListLine.{list_marked, mark_bytes, list_count, list_at, rows_at, read_list}
 use Rattle.lines.specs.Rule.{rule_widths, read_rule}
 use Rattle.meaning.proofs.Truths.{by_test}
 use Rattle.lines.proofs.DigitLaws.{digits_at-most}
-use Rattle.lines.proofs.LineLaws.{past-right}
+use Rattle.lines.proofs.LineLaws.{past-most, past-right}
 use Rattle.lines.proofs.ListLaws.{count_most}
 
-bytes_of_ones : (n : ℕ) → bytes_of (replicate n 1) ≡ n
+pub bytes_of_ones : (n : ℕ) → bytes_of (replicate n 1) ≡ n
 bytes_of_ones zero = refl
 bytes_of_ones (suc n) = let rest : bytes_of (replicate n 1) ≡ n = bytes_of_ones n in omega arith
+
+-- Numbers from a later place on are those from a later offset on.
+pub numbers_shift : (text : List ℕ) (place from offset : ℕ) (widths : List ℕ)
+    → numbers_read text (place + from) offset widths ≡ numbers_read text place (from + offset) widths
+numbers_shift text place from offset [] = refl
+numbers_shift text place from offset (width ∷ widths) =
+    let here : place + from + offset ≡ place + (from + offset) = omega arith in
+    let on : from + offset + byte_digits * width ≡ from + (offset + byte_digits * width) = omega arith in
+    rw (here, on, numbers_shift text place from (offset + byte_digits * width) widths)
 
 -- Two texts with the same bytes, the one from a place on, the other from its start.
 module _ (first second : List ℕ) (from limit : ℕ) (same : (i : ℕ) → i < limit → byte_at first (from + i) ≡ byte_at second i) where
@@ -37,14 +45,14 @@ module _ (first second : List ℕ) (from limit : ℕ) (same : (i : ℕ) → i < 
       let on : suc (from + place) ≡ from + suc place = omega arith in
       rw (same place (omega arith), on, digits_agree (suc place) n (omega arith))
 
-  hex_agree : (place n : ℕ) → place + n ≤ limit → hex_at first (from + place) n ≡ hex_at second place n
+  pub hex_agree : (place n : ℕ) → place + n ≤ limit → hex_at first (from + place) n ≡ hex_at second place n
   unfolding hex_at
   hex_agree place zero within = refl
   hex_agree place (suc n) within =
       let on : from + place + n ≡ from + (place + n) = omega arith in
       rw (on, same (place + n) (omega arith), hex_agree place n (omega arith))
 
-  sum_agree : (n : ℕ) → byte_digits * n ≤ limit → sum_at first from n ≡ sum_at second 0 n
+  pub sum_agree : (n : ℕ) → byte_digits * n ≤ limit → sum_at first from n ≡ sum_at second 0 n
   unfolding sum_at
   sum_agree zero within = refl
   sum_agree (suc n) within =
@@ -59,20 +67,20 @@ module _ (first second : List ℕ) (from limit : ℕ) (same : (i : ℕ) → i < 
       let counts : digits_at first from n ≡ digits_at second 0 n = rw here at (digits_agree 0 n (omega arith)) in
       rw (counts, start, same n within)
 
-  line_agree : (n : ℕ) → digits_of n < limit → leb (length first) from ≡ leb (length second) 0 → line_at first from n ≡ line_at second 0 n
+  pub line_agree : (n : ℕ) → digits_of n < limit → leb (length first) from ≡ leb (length second) 0 → line_at first from n ≡ line_at second 0 n
   unfolding line_at
   line_agree n within ends =
       let start : 0 + byte_digits * n ≡ byte_digits * n = omega arith in
       rw (ends, right_agree (digits_of n) within, start, sum_agree n (omega arith), hex_agree (byte_digits * n) byte_digits (omega arith))
 
-  numbers_agree : (offset : ℕ) (widths : List ℕ) → offset + byte_digits * bytes_of widths ≤ limit
+  pub numbers_agree : (offset : ℕ) (widths : List ℕ) → offset + byte_digits * bytes_of widths ≤ limit
       → numbers_read first from offset widths ≡ numbers_read second 0 offset widths
   numbers_agree offset [] within = refl
   numbers_agree offset (width ∷ widths) within =
       let start : 0 + offset ≡ offset = omega arith in
       rw (start, hex_agree offset (byte_digits * width) (omega arith), numbers_agree (offset + byte_digits * width) widths (omega arith))
 
-  marked_agree : 1 < limit → list_marked first from ≡ list_marked second 0
+  pub marked_agree : 1 < limit → list_marked first from ≡ list_marked second 0
   unfolding list_marked
   marked_agree within =
       let here : from + 0 ≡ from = omega arith in
@@ -85,23 +93,23 @@ module _ (first second : List ℕ) (from limit : ℕ) (same : (i : ℕ) → i < 
       let here : from + 0 ≡ from = omega arith in
       rw (rw here at (digits_agree 0 (digits_of (mark_bytes + list_limit)) (omega arith)))
 
-  list_agree : digits_of (mark_bytes + list_limit) < limit → leb (length first) from ≡ leb (length second) 0 → list_at first from ≡ list_at second 0
+  pub list_agree : digits_of (mark_bytes + list_limit) < limit → leb (length first) from ≡ leb (length second) 0 → list_at first from ≡ list_at second 0
   unfolding list_at
   list_agree within ends =
       let n : ℕ = list_count second 0 in
       rw (ends, marked_agree (omega arith), count_agree within, line_agree (mark_bytes + n) (omega (arith, count_most second 0)) ends)
 
-  rows_agree : digits_of (mark_bytes + list_limit) < limit → rows_at first from (list_count first from) ≡ rows_at second 0 (list_count second 0)
+  pub rows_agree : digits_of (mark_bytes + list_limit) < limit → rows_at first from (list_count first from) ≡ rows_at second 0 (list_count second 0)
   rows_agree within =
       let n : ℕ = list_count second 0 in
       rw (count_agree within) (numbers_agree byte_digits (replicate n 1) (omega (arith, count_most second 0, bytes_of_ones n)))
 
 -- What is read of a line: the end, its numbers, or a refusal.
-reply_by : (P : LineReply → Type 0) (line : LineFound) (given : List ℕ) → P at_end → P (good_line given) → ((fault : Refused) → P (bad_line fault))
+reply_by : (P : LineReply → Type 0) (line : Found) (given : List ℕ) → P at_end → P (good_line given) → ((fault : Refused) → P (bad_line fault))
     → P (line_reply line given)
-reply_by P found.End given ends good bad = ends
-reply_by P found.Good given ends good bad = good
-reply_by P (found.Refused r) given ends good bad = bad (refused r)
+reply_by P None given ends good bad = ends
+reply_by P (Some (Ok tt)) given ends good bad = good
+reply_by P (Some (Err r)) given ends good bad = bad (refused r)
 
 pub said_by : (P : LineReply → Type 0) (widths line : List ℕ) → P at_end → P (good_line (numbers_read line 0 0 widths)) → ((fault : Refused) → P (bad_line fault))
     → P (read_line widths line 0).said
@@ -152,7 +160,7 @@ list_held limit line within =
 
 -- What is not as required is a bad line.
 line_bad : (text : List ℕ) (place n : ℕ) → place < length text → (right_at text place (digits_of n) ≡ digits_of n + 1 → ⊥)
-    → line_at text place n ≡ found.Refused BadLine
+    → line_at text place n ≡ Some (Err BadLine)
 unfolding line_at
 line_bad text place n within wrong = rw (lt-leb _ _ within, ne_eqb _ _ wrong)
 
@@ -163,7 +171,7 @@ said_bad widths text place within wrong = rw (line_bad text place (bytes_of widt
 
 -- A line without a line feed is a bad line.
 module _ (line : List ℕ) (some : 0 < length line) (free : (i : ℕ) → byte_at line i ≡ line_feed → ⊥) where
-  line_cut : (n : ℕ) → line_at line 0 n ≡ found.Refused BadLine
+  line_cut : (n : ℕ) → line_at line 0 n ≡ Some (Err BadLine)
   unfolding right_at
   line_cut n =
       let last : eqb (byte_at line (0 + digits_of n)) line_feed ≡ false = ne_eqb _ _ (free (0 + digits_of n)) in
@@ -184,18 +192,11 @@ pub said_cut : (widths line : List ℕ) → 0 < length line → ((i : ℕ) → b
     → (read_line widths line 0).said ≡ bad_line (refused BadLine)
 said_cut widths line some free = rw (line_cut line some free (bytes_of widths))
 
--- The first line of a text has a byte at least where the text has one, and no more than there are.
+-- The first line of a text has a byte at least where the text has one.
 pub past-some : (bytes : List ℕ) → 0 < length bytes → 0 < past_first bytes
 unfolding past_first
 past-some [] some = absurd (omega arith)
 past-some (byte ∷ bytes) some =
-    by_test (eqb byte line_feed) (λ ends. rw ends (omega arith)) (λ other. rw other (omega arith))
-
-past-most : (bytes : List ℕ) → past_first bytes ≤ length bytes
-unfolding past_first
-past-most [] = omega arith
-past-most (byte ∷ bytes) =
-    let rest : past_first bytes ≤ length bytes = past-most bytes in
     by_test (eqb byte line_feed) (λ ends. rw ends (omega arith)) (λ other. rw other (omega arith))
 
 -- A line read at its place in a text reads as the line alone.

@@ -1,30 +1,33 @@
 -- Which bytes are digits, how large their values are, and one turn of counting them.
 use mathlib.Core.Bool.{true, false}
-use mathlib.Core.List.{List}
-use mathlib.Core.Path.{◌≡◌, sym, ◌∙◌}
-use Prim.Native.Nat.{ℕ, zero, suc, ◌+◌, ◌-◌, ◌^◌, ◌≤◌, ◌<◌}
-use native.Mathlib.Nat.{pow-suc, pow-le-pow_right}
+use mathlib.Core.List.{List, [], ◌∷◌}
+use mathlib.Core.Path.{◌≡◌, refl, sym, ap, ◌∙◌}
+use Prim.Native.Nat.{ℕ, zero, suc, ◌+◌, ◌-◌, ◌*◌, ◌^◌, ◌≤◌, ◌<◌}
+use native.Mathlib.Nat.{pow-suc, pow-le-pow_right, zero-add}
+use native.Mathlib.Numerals.{add-one, one-add}
 use native.Mathlib.Omega.{arith}
 use borrow.Author.Tests.{ltb-true, ltb-false, leb-true, leb-false, le-leb, lt-leb}
 use lib.Dec.{leb, ltb, lit<}
+use lib.ListN.{length, take}
+use Rattle.std.specs.List.{take_while}
 use Rattle.lines.specs.Digits.{byte_at, byte0, byte9, byte_a, byte_f, base, value_a, is_digit, digit_value, digit_byte, digits_at, hex_at}
 use Rattle.meaning.proofs.Truths.{no_truth}
 use Rattle.meaning.proofs.Truths.{by_test}
 
 module _ (byte : ℕ) where
-  pub digit_below : byte < byte0 → is_digit byte ≡ false
+  digit_below : byte < byte0 → is_digit byte ≡ false
   unfolding is_digit
   digit_below h = simp (lt-leb byte0 byte h, lt-leb byte_a byte (omega arith))
 
-  pub digit_number : byte0 ≤ byte → byte ≤ byte9 → is_digit byte ≡ true
+  digit_number : byte0 ≤ byte → byte ≤ byte9 → is_digit byte ≡ true
   unfolding is_digit
   digit_number low high = simp (le-leb byte0 byte low, le-leb byte byte9 high)
 
-  pub digit_between : byte9 < byte → byte < byte_a → is_digit byte ≡ false
+  digit_between : byte9 < byte → byte < byte_a → is_digit byte ≡ false
   unfolding is_digit
   digit_between low high = simp (le-leb byte0 byte (omega arith), lt-leb byte byte9 low, lt-leb byte_a byte high)
 
-  pub digit_letter : byte_a ≤ byte → is_digit byte ≡ leb byte byte_f
+  digit_letter : byte_a ≤ byte → is_digit byte ≡ leb byte byte_f
   unfolding is_digit
   digit_letter low = simp (le-leb byte0 byte (omega arith), lt-leb byte byte9 (omega arith), le-leb byte_a byte low)
 
@@ -78,27 +81,38 @@ hex_at-below text place (suc n) =
     let value : digit_value (byte_at text (place + n)) < 16 = digit_value-below (byte_at text (place + n)) in
     rw pow-suc (omega arith)
 
--- The value of n digits fits k digits, k at least n.
-pub hex_at-fits : (n k : ℕ) (text : List ℕ) (place value : ℕ) → n ≤ k → value ≡ hex_at text place n → value < 16 ^ k
-hex_at-fits n k text place value fewer is =
-    let top : 16 ^ n ≤ 16 ^ k = pow-le-pow_right (lit< tt) fewer in
-    omega (arith, hex_at-below text place n)
+-- One digit more.
+pub hex_more : (text : List ℕ) (n value digit : ℕ) → value ≡ hex_at text 0 n → digit ≡ digit_value (byte_at text n)
+    → value * base + digit ≡ hex_at text 0 (n + 1)
+unfolding hex_at
+hex_more text n value digit before last = rw (add-one, zero-add, ← before, ← last)
 
--- One turn of counting: a digit is counted, any other byte ends the count.
-module _ (text : List ℕ) (place count n : ℕ) (h : count < n) where
-  pub count_digit : is_digit (byte_at text (place + count)) ≡ true
-      → count + digits_at text (place + count) (n - count) ≡ count + 1 + digits_at text (place + (count + 1)) (n - (count + 1))
-  unfolding digits_at
-  count_digit is =
-      let left : n - count ≡ suc (n - (count + 1)) = omega arith in
-      let on : suc (place + count) ≡ place + (count + 1) = omega arith in
-      rw left (rw is (rw on (omega arith)))
+-- Fewer than 16 digits leave room for one more.
+pub hex_at-room : (text : List ℕ) (n : ℕ) → n ≤ 15 → hex_at text 0 n < 2 ^ 60
+hex_at-room text n fewer =
+    let top : 16 ^ n ≤ 16 ^ 15 = pow-le-pow_right (lit< tt) fewer in
+    omega (arith, hex_at-below text 0 n)
 
-  pub count-ends : is_digit (byte_at text (place + count)) ≡ false → count + digits_at text (place + count) (n - count) ≡ count
-  unfolding digits_at
-  count-ends not =
-      let left : n - count ≡ suc (n - (count + 1)) = omega arith in
-      rw left (rw not (omega arith))
+-- Counted from the next place on is counted in what follows the first byte.
+digits_shift : (byte : ℕ) (bytes : List ℕ) (place n : ℕ) → digits_at (byte ∷ bytes) (suc place) n ≡ digits_at bytes place n
+unfolding digits_at
+digits_shift byte bytes place zero = refl
+digits_shift byte bytes place (suc n) = rw (digits_shift byte bytes (suc place) n)
+
+digits_none : (place n : ℕ) → digits_at [] place n ≡ 0
+unfolding digits_at is_digit
+digits_none place zero = refl
+digits_none place (suc n) = refl
+
+-- The digits that are taken from the front of n bytes are those counted.
+pub digits_taken : (text : List ℕ) (n : ℕ) → length (take_while is_digit (take n text)) ≡ digits_at text 0 n
+unfolding digits_at
+digits_taken text zero = refl
+digits_taken [] (suc n) = sym (digits_none 0 (suc n))
+digits_taken (byte ∷ bytes) (suc n) =
+    by_test (is_digit byte)
+    (λ is. rw (is, one-add) (ap suc (digits_taken bytes n ∙ sym (digits_shift byte bytes 0 n))))
+    (λ not. rw not)
 
 pub digits_at-most : (text : List ℕ) (place n : ℕ) → digits_at text place n ≤ n
 unfolding digits_at

@@ -6,4 +6,8 @@ pub mod LineLaws
 pub mod LinesLaws
 pub mod ListLaws
 pub mod AgreeLaws
+pub mod RestLaws
+pub mod ReaderLaws
+pub mod PartLaws
+pub mod PairLaws
 pub mod Outcomes

@@ -1,19 +1,21 @@
 -- Row numbers on a line: how many there can be, one turn of reading them, and the place past a list line or a rule line.
-use mathlib.Core.Bool.{◌&&◌}
+use mathlib.Core.Bool.{true, false, ◌&&◌}
 use mathlib.Core.List.{List, [], ◌∷◌, ◌++◌}
 use mathlib.Core.Path.{◌≡◌, refl, sym, ap, ◌∙◌}
 use Prim.Native.Nat.{ℕ, zero, suc, ◌+◌, ◌-◌, ◌*◌, ◌≤◌, ◌<◌}
 use native.Mathlib.Omega.{arith}
-use borrow.Author.Tests.{lt-leb}
+use borrow.Author.Tests.{lt-leb, le-leb}
 use lib.Dec.{leb}
 use lib.ListN.{length, get_or, set, replicate, length-replicate}
 use lib.Seq.{set_at, take_at, append_snoc}
+use Rattle.std.specs.Prelude.{Some, Err}
+use Rattle.refusals.specs.declared.refusal.Refusal.TheVariants.{BadLine}
 use Rattle.meaning.proofs.Truths.{by_test}
-use Rattle.row_list.specs.RowList.{list_limit}
+use Rattle.row_list.specs.RowList.{list_limit, numbers_of}
 use Rattle.lines.specs.Digits.{byte_digits, digits_at, hex_at}
-use Rattle.lines.specs.Line.{past_line_feed, digits_of}
+use Rattle.lines.specs.Line.{past_line_feed, digits_of, line_at}
 use Rattle.lines.specs.Read.{bytes_of, numbers_read}
-use Rattle.lines.specs.ListLine.{list_marked, mark_bytes, list_count, list_at, rows_at, read_list, numbers_of, list_of}
+use Rattle.lines.specs.ListLine.{list_marked, mark_bytes, list_count, list_at, rows_at, read_list, list_of}
 use Rattle.lines.specs.Rule.{rule_widths, read_rule}
 use Rattle.lines.proofs.DigitLaws.{digits_at-most}
 use Rattle.lines.proofs.LineLaws.{next_past}
@@ -59,23 +61,37 @@ module _ (text : List ℕ) (place : ℕ) where
   pub row_at : (count k : ℕ) → k < count → get_or (rows_at text place count) k 0 ≡ hex_at text (place + (byte_digits + byte_digits * k)) byte_digits
   row_at count k below = number_at byte_digits count k below
 
-  -- The first numbers as they are stored, 0 past them.
-  abbrev pub rows_done : ℕ → List ℕ
-  rows_done done = rows_at text place done ++ replicate (list_limit - done) 0
+  -- The first numbers from an offset on as they are stored, 0 past them.
+  module _ (offset : ℕ) where
+    abbrev pub rows_done : ℕ → List ℕ
+    rows_done done = numbers_read text place offset (replicate done 1) ++ replicate (list_limit - done) 0
 
-  pub store-row : (done value : ℕ) → done < list_limit → value ≡ hex_at text (place + (byte_digits + byte_digits * done)) byte_digits
-      → set (rows_done done) done value ≡ rows_done (done + 1)
-  store-row done value room is =
-      let left : list_limit - done ≡ suc (list_limit - suc done) = omega arith in
-      let on : done + 1 ≡ suc done = omega arith in
-      let given : List ℕ = rows_at text place done in
-      let zeros : List ℕ = replicate (list_limit - suc done) 0 in
-      let stored : set (given ++ (0 ∷ zeros)) done value ≡ given ++ (value ∷ zeros) = set_at given 0 zeros value done (rows_length done) in
-      let more : rows_at text place (suc done) ≡ given ++ (value ∷ []) = one_more byte_digits done ∙ rw (← is) in
-      rw (left, on) (stored ∙ sym (append_snoc given value zeros) ∙ ap (λ (l : List ℕ). l ++ zeros) (sym more))
+    pub store-row : (done value : ℕ) → done < list_limit → value ≡ hex_at text (place + (offset + byte_digits * done)) byte_digits
+        → set (rows_done done) done value ≡ rows_done (done + 1)
+    store-row done value room is =
+        let left : list_limit - done ≡ suc (list_limit - suc done) = omega arith in
+        let on : done + 1 ≡ suc done = omega arith in
+        let given : List ℕ = numbers_read text place offset (replicate done 1) in
+        let zeros : List ℕ = replicate (list_limit - suc done) 0 in
+        let size : length given ≡ done = numbers_length offset (replicate done 1) ∙ length-replicate done 1 in
+        let stored : set (given ++ (0 ∷ zeros)) done value ≡ given ++ (value ∷ zeros) = set_at given 0 zeros value done size in
+        let more : numbers_read text place offset (replicate (suc done) 1) ≡ given ++ (value ∷ []) = one_more offset done ∙ rw (← is) in
+        rw (left, on) (stored ∙ sym (append_snoc given value zeros) ∙ ap (λ (l : List ℕ). l ++ zeros) (sym more))
 
-  pub rows-done : (count : ℕ) → record { rows = rows_done count; count = count } ≡ list_of (rows_at text place count)
-  rows-done count = rw rows_length
+    pub rows-done : (count : ℕ) → record { rows = rows_done count; count = count } ≡ list_of (numbers_read text place offset (replicate count 1))
+    rows-done count =
+        let size : length (replicate {A = ℕ} count 1) ≡ count = length-replicate count 1 in
+        rw (numbers_length offset (replicate count 1), size)
+
+-- What list a text begins with: none where it has no mark or no row number, else that of a line of so many bytes.
+module _ (text : List ℕ) (some : 0 < length text) where
+  pub list_none : (list_marked text 0 && leb 1 (list_count text 0)) ≡ false → list_at text 0 ≡ Some (Err BadLine)
+  unfolding list_at
+  list_none not = rw (lt-leb (length text) 0 some, not)
+
+  pub list_line : list_marked text 0 ≡ true → 1 ≤ list_count text 0 → list_at text 0 ≡ line_at text 0 (mark_bytes + list_count text 0)
+  unfolding list_at
+  list_line marked counted = rw (lt-leb (length text) 0 some, marked, le-leb 1 (list_count text 0) counted)
 
 -- After any list line, and any line read for a rule, the next place is past its first line feed.
 module _ (text : List ℕ) (place : ℕ) (within : place < length text) where

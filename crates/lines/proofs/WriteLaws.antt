@@ -1,11 +1,14 @@
 -- Writing digits from the back: what is left, written over what is there, stays the same from turn to turn.
+use mathlib.Core.Bool.{true}
 use mathlib.Core.List.{List, ◌++◌, append_assoc}
-use mathlib.Core.Path.{◌≡◌, refl}
-use Prim.Native.Nat.{ℕ, zero, suc, ◌+◌, ◌/◌, ◌%◌, ◌<◌}
+use mathlib.Core.Path.{◌≡◌, refl, sym, ◌∙◌}
+use Prim.Native.Nat.{ℕ, zero, suc, ◌+◌, ◌/◌, ◌%◌, ◌≤◌, ◌<◌}
 use native.Mathlib.Omega.{arith}
+use borrow.Author.Tests.{le-leb}
+use lib.Dec.{leb}
 use lib.ListN.{length, take, drop, set, length-append, length-set}
 use lib.Seq.{drop-cons, take-set-le, drop-set-lt, get_or-set_same}
-use Rattle.lines.specs.Digits.{digits, digit_byte, overwritten}
+use Rattle.lines.specs.Digits.{digits, digit_byte, overwritten, DigitsWritten}
 use Rattle.lines.proofs.OverLaws.{over_none}
 
 pub length_digits : (n value : ℕ) → length (digits n value) ≡ n
@@ -20,7 +23,7 @@ abbrev pub left_over : List ℕ → ℕ → ℕ → ℕ → List ℕ
 left_over out place n value = take place out ++ (digits n value ++ drop (place + n) out)
 
 module _ (out : List ℕ) (place n value : ℕ) where
-  pub left_over_lem : left_over out place n value ≡ overwritten out place (digits n value)
+  left_over_lem : left_over out place n value ≡ overwritten out place (digits n value)
   left_over_lem = rw length_digits
 
   -- One turn: the last digit is stored, and one fewer is left.
@@ -40,6 +43,16 @@ module _ (out : List ℕ) (place n value : ℕ) where
       )
 
 -- Nothing is left: the bytes are as they should be.
-pub none_left : (out : List ℕ) (place value : ℕ) → left_over out place 0 value ≡ out
+none_left : (out : List ℕ) (place value : ℕ) → left_over out place 0 value ≡ out
 unfolding digits
 none_left out place value = over_none out place
+
+-- What the loop keeps says at its end that the digits are written.
+pub all_written : (out after : List ℕ) (place n value left rest : ℕ) → place + n ≤ length out → left ≡ 0
+    → left_over after place left rest ≡ left_over out place n value → DigitsWritten out place n value true after
+all_written out after place n value left rest fits none kept =
+    let room : leb (place + n) (length out) ≡ true = le-leb _ _ fits in
+    record {
+      said = sym room;
+      bytes = rw room (sym (none_left after place rest) ∙ (rw none at kept) ∙ left_over_lem out place n value);
+    }

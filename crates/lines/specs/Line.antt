@@ -1,8 +1,7 @@
 -- The one shape of a line: n data bytes as digits, a sum byte, a line feed (document 01, "Lines from the board" and "Refusal numbers").
-use Rattle.std.specs.Prelude.{cond, ◌&&◌, List, [], ◌∷◌, ℕ, zero, suc, ◌+◌, ◌*◌, ◌%◌, leb, eqb, length, drop}
+use Rattle.std.specs.Prelude.{cond, ◌&&◌, List, [], ◌∷◌, ℕ, zero, suc, ◌+◌, ◌*◌, ◌%◌, leb, eqb, length, drop, Option, Some, None, Result, Ok, Err}
+use Rattle.refusals.specs.declared.refusal.Refusal.{Refusal}
 use Rattle.refusals.specs.declared.refusal.Refusal.TheVariants as refusal
-use Rattle.lines.specs.declared.line.LineFound.{LineFound}
-use Rattle.lines.specs.declared.line.LineFound.TheVariants.{End, Good, Refused}
 use Rattle.lines.specs.Digits.{byte_at, byte_digits, byte_values, digits_at, hex_at}
 
 abbrev pub line_feed : ℕ
@@ -32,16 +31,20 @@ past_line_feed text place = place + past_first (drop place text)
 abbrev pub digits_of : ℕ → ℕ
 digits_of n = byte_digits * n + byte_digits
 
+-- Nothing at the end; a line that is right; or its refusal.
+abbrev pub Found : Type 0
+Found = Option (Result Unit Refusal)
+
 -- What stands at a place. 8: "place before the end, but no 14 digits 0-9 A-F and line feed there"; 9: "line well formed, its sum wrong".
-unfoldable pub line_at : List ℕ → ℕ → ℕ → LineFound
+unfoldable pub line_at : List ℕ → ℕ → ℕ → Found
 line_at text place n =
-    cond (leb (length text) place) End
+    cond (leb (length text) place) None
     (cond (eqb (right_at text place (digits_of n)) (digits_of n + 1))
-    (cond (eqb (sum_at text place n % byte_values) (hex_at text (place + byte_digits * n) byte_digits)) Good (Refused refusal.BadSum))
-    (Refused refusal.BadLine))
+    (cond (eqb (sum_at text place n % byte_values) (hex_at text (place + byte_digits * n) byte_digits)) (Some (Ok tt)) (Some (Err refusal.BadSum)))
+    (Some (Err refusal.BadLine)))
 
 -- "A place at or past the end answers "end", place unchanged. After a good line the place moves 15. After 8 or 9 it moves past the first line feed".
-abbrev pub next_place : LineFound → List ℕ → ℕ → ℕ → ℕ
-next_place End text place n = place
-next_place Good text place n = place + (digits_of n + 1)
-next_place (Refused r) text place n = past_line_feed text place
+abbrev pub next_place : Found → List ℕ → ℕ → ℕ → ℕ
+next_place None text place n = place
+next_place (Some (Ok good)) text place n = place + (digits_of n + 1)
+next_place (Some (Err refusal)) text place n = past_line_feed text place

@@ -1,18 +1,13 @@
 -- A list line read at a place (document 02, E4): "AA, with which no rule line may start, 1 to 16 two-digit row numbers, the sum of all these bytes
 -- modulo 256". Its numbers are not judged.
-use Rattle.std.specs.Prelude.{Bool, cond, ◌&&◌, List, [], ◌++◌, ◌≡◌, ℕ, ◌+◌, ◌-◌, ◌/◌, leb, eqb, length, take, replicate}
-use Rattle.refusals.specs.Refusals.{refused}
+use Rattle.std.specs.Prelude.{Bool, cond, ◌&&◌, List, [], ◌++◌, ◌≡◌, ℕ, ◌+◌, ◌-◌, ◌/◌, leb, eqb, length, replicate, Some, None, Ok, Err}
 use Rattle.refusals.specs.declared.refusal.Refusal.TheVariants as refusal
 use Rattle.row_list.specs.declared.list.RowList.{RowList}
-use Rattle.row_list.specs.RowList.{list_limit}
-use Rattle.lines.specs.declared.line.LineFound.{LineFound}
-use Rattle.lines.specs.declared.line.LineFound.TheVariants as line
-use Rattle.lines.specs.declared.list.ListRead.{ListRead}
-use Rattle.lines.specs.declared.list.ListFound.{ListFound}
-use Rattle.lines.specs.declared.list.ListFound.TheVariants.{End, Rows, Refused}
+use Rattle.row_list.specs.RowList.{list_limit, numbers_of}
+use Rattle.lines.specs.declared.read.Read as Code
 use Rattle.lines.specs.Digits.{byte_at, byte_a, byte_digits, digits_at}
-use Rattle.lines.specs.Line.{digits_of, line_at, next_place}
-use Rattle.lines.specs.Read.{LineReply, at_end, good_line, bad_line, Read, numbers_read, line_reply}
+use Rattle.lines.specs.Line.{Found, digits_of, line_at, next_place}
+use Rattle.lines.specs.Read.{LineReply, at_end, good_line, bad_line, Read, numbers_read, line_reply, read_said}
 
 -- "AA, with which no rule line may start".
 unfoldable pub list_marked : List ℕ → ℕ → Bool
@@ -27,10 +22,10 @@ unfoldable pub list_count : List ℕ → ℕ → ℕ
 list_count text place = digits_at text place (digits_of (mark_bytes + list_limit)) / byte_digits - (mark_bytes + 1)
 
 -- What stands at a place: a line of the mark and of one row number at least, whose digits are right to its line feed.
-unfoldable pub list_at : List ℕ → ℕ → LineFound
+unfoldable pub list_at : List ℕ → ℕ → Found
 list_at text place =
-    cond (leb (length text) place) line.End
-    (cond (list_marked text place && leb 1 (list_count text place)) (line_at text place (mark_bytes + list_count text place)) (line.Refused refusal.BadLine))
+    cond (leb (length text) place) None
+    (cond (list_marked text place && leb 1 (list_count text place)) (line_at text place (mark_bytes + list_count text place)) (Some (Err refusal.BadLine)))
 
 -- The row numbers after the mark, "two-digit".
 abbrev pub rows_at : List ℕ → ℕ → ℕ → List ℕ
@@ -43,21 +38,9 @@ read_list text place =
       next = next_place (list_at text place) text place (mark_bytes + list_count text place);
     }
 
--- The numbers of a list, and a list of these numbers: 0 past the last.
-abbrev pub numbers_of : RowList → List ℕ
-numbers_of list = take list.count list.rows
-
+-- A list of these numbers: 0 past the last.
 abbrev pub list_of : List ℕ → RowList
 list_of given = record { rows = given ++ replicate (list_limit - length given) 0; count = length given }
-
--- What the code's answer says, in the paper's numbers.
-abbrev pub list_found : ListFound → List ℕ → LineReply
-list_found End given = at_end
-list_found Rows given = good_line given
-list_found (Refused r) given = bad_line (refused r)
-
-abbrev pub list_said : ListRead → Read
-list_said r = record { said = list_found r.found (numbers_of r.list); next = r.next }
 
 -- The numbers that are said: none where there is no list.
 abbrev pub rows_said : LineReply → List ℕ
@@ -65,7 +48,7 @@ rows_said at_end = []
 rows_said (good_line numbers) = numbers
 rows_said (bad_line fault) = []
 
--- An answer that is right for a text and a place: it says what reading a list line there gives, and its list is of these numbers alone.
-pub record ReadsList (text : List ℕ) (place : ℕ) (read : ListRead) : Type 0 where
-  pub said : list_said read ≡ read_list text place
-  pub list : read.list ≡ list_of (rows_said (read_list text place).said)
+-- An answer that is right for a text and a place: it says what reading a list line there gives, and a list that it found is of these numbers alone.
+pub record ReadsList (text : List ℕ) (place : ℕ) (read : Code.Read RowList) : Type 0 where
+  pub said : read_said numbers_of read ≡ read_list text place
+  pub list : (list : RowList) → read.found ≡ Some (Ok list) → list ≡ list_of (rows_said (read_list text place).said)

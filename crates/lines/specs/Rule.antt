@@ -2,12 +2,11 @@
 use Rattle.std.specs.Prelude.{cond, List, [], ◌∷◌, ◌≡◌, ℕ}
 use Rattle.refusals.specs.Refusals.{refused}
 use Rattle.refusals.specs.declared.refusal.Refusal.TheVariants.{BadLine}
-use Rattle.lines.specs.declared.rule.RuleRead.{RuleRead}
-use Rattle.lines.specs.declared.rule.RuleFound.{RuleFound}
-use Rattle.lines.specs.declared.rule.RuleFound.TheVariants.{End, Rule, Refused}
+use Rattle.lines.specs.declared.rule.Rule.{Rule}
+use Rattle.lines.specs.declared.read.Read as Code
 use Rattle.lines.specs.Line.{past_line_feed}
 use Rattle.lines.specs.ListLine.{list_marked}
-use Rattle.lines.specs.Read.{LineReply, at_end, good_line, bad_line, Read, read_line}
+use Rattle.lines.specs.Read.{bad_line, Read, read_line, read_said}
 
 -- "kind 2 digits, x 2, y 2, a 8, b 8".
 abbrev pub rule_widths : List ℕ
@@ -21,15 +20,10 @@ read_bad text place = record { said = bad_line (refused BadLine); next = past_li
 abbrev pub read_rule : List ℕ → ℕ → Read
 read_rule text place = cond (list_marked text place) (read_bad text place) (read_line rule_widths text place)
 
--- What the code's answer says, in the paper's numbers.
-abbrev pub rule_found : RuleFound → LineReply
-rule_found End = at_end
-rule_found (Rule kind x y a b) = good_line (kind ∷ x ∷ y ∷ a ∷ b ∷ [])
-rule_found (Refused r) = bad_line (refused r)
-
-abbrev pub rule_said : RuleRead → Read
-rule_said r = record { said = rule_found r.found; next = r.next }
+-- The numbers of a rule.
+abbrev pub rule_numbers : Rule → List ℕ
+rule_numbers rule = rule.kind ∷ rule.x ∷ rule.y ∷ rule.a ∷ rule.b ∷ []
 
 -- An answer that is right for a text and a place: it says what reading a rule line there gives.
-abbrev pub ReadsRule : List ℕ → ℕ → RuleRead → Type 0
-ReadsRule text place read = rule_said read ≡ read_rule text place
+abbrev pub ReadsRule : List ℕ → ℕ → Code.Read Rule → Type 0
+ReadsRule text place read = read_said rule_numbers read ≡ read_rule text place

@@ -6,5 +6,6 @@ pub mod digits;
 pub mod frame;
 mod line;
 pub mod list;
+pub mod read;
 pub mod reader;
 pub mod rule;

@@ -1,96 +1,66 @@
-// The one shape of a line: n data bytes as digits, a sum byte as digits, a line feed. Reading it at a place, whatever its numbers are.
+// The one shape of a line: n data bytes as digits, a sum byte as digits, a line feed. Where lines begin and end in a text, whatever their numbers are.
 
-ghost use Rattle.std.specs.Prelude.{◌≡◌, ◌<◌, ◌^◌};
-ghost use Rattle.lines.specs.Line.{right_at, sum_at, past_line_feed, line_at, next_place};
+ghost use Rattle.std.specs.Prelude.{◌≡◌, ◌==◌, ◌+◌, ◌/◌, ◌<◌, ◌^◌, length, take, drop, MatchResult, Some, Ok, Err};
+ghost use Rattle.lines.specs.Digits.{byte_digits};
+ghost use Rattle.lines.specs.Line.{right_at, sum_at, past_first, digits_of, line_at};
 
-use crate::digits::{byte_at, digits_at, hex_at};
+use crate::digits::{leading_digits, number};
 use refusals::refusal::Refusal;
 
-#[derive(Drop)]
-pub(crate) enum LineFound {
-    // The place is at or past the end of the text.
-    End,
-    // The line is as required, and its sum is right.
-    Good,
-    // 8 or 9.
-    Refused(Refusal),
-}
-
-// What stands at a place, and the place to read at next.
-#[derive(Drop)]
-pub(crate) struct LineRead {
-    pub line: LineFound,
-    pub next: usize,
-}
-
-// A line of n data bytes read at a place: judged by form and sum, whatever its numbers are.
-pub(crate) fn read_line(text: &[u8], place: usize, n: usize) -> LineRead
-    requires { n < 2 ^ 16 }
-    ensures { (result.line ≡ line_at text.now place n) × (result.next ≡ next_place result.line text.now place n) }
+// What is left of a text at a place: nothing at or past its end.
+pub(crate) fn rest_at(text: &[u8], place: usize) -> &[u8]
+    ensures { result.now ≡ drop place text.now }
 {
-    if text.len() <= place {
-        return LineRead {
-            line: LineFound::End,
-            next: place,
-        };
-    }
-    let digits = 2 * n + 2;
-    if right_at(text, place, digits) == digits + 1 {
-        if sum_at(text, place, n) % 256 == hex_at(text, place, 2 * n, 2) {
-            return LineRead {
-                line: LineFound::Good,
-                next: place + (digits + 1),
-            };
-        }
-        return LineRead {
-            line: LineFound::Refused(Refusal::BadSum),
-            next: past_line_feed(text, place),
-        };
-    }
-    LineRead {
-        line: LineFound::Refused(Refusal::BadLine),
-        next: past_line_feed(text, place),
-    }
+    &text[place.min(text.len())..]
 }
 
-// How far n digits and a line feed stand at a place: n + 1 where they all do, otherwise the offset of the first byte that is not as required.
-fn right_at(text: &[u8], place: usize, n: usize) -> usize
-    requires { n < 2 ^ 32 }
-    ensures { result ≡ right_at text.now place n }
+// How many bytes the first line of a text has, with its line feed.
+pub(crate) fn line_length(rest: &[u8]) -> usize
+    ensures { result ≡ past_first rest.now }
 {
-    let count = digits_at(text, place, n);
-    if count == n {
-        if byte_at(text, place, n) == b'\n' {
-            return n + 1;
-        }
+    match rest.iter().position(|&byte| byte == b'\n') {
+        Some(at) => at + 1,
+        None => rest.len(),
     }
-    count
 }
 
-// The sum of the n bytes whose digits begin at a place.
-fn sum_at(text: &[u8], place: usize, n: usize) -> u64
+// The digits, with the sum's, of the line of n data bytes that a text begins with: judged by form and sum, whatever its numbers are.
+pub(crate) fn line_digits(rest: &[u8], n: usize) -> Result<&[u8], Refusal>
     requires { n < 2 ^ 16 }
-    ensures { result ≡ sum_at text.now place n }
+    ensures { MatchResult result
+        (λ digits. (line_at rest.now 0 n ≡ Some (Ok tt)) × (digits.now ≡ take (digits_of n) rest.now) × (length digits.now ≡ digits_of n))
+        (λ refusal. 0 < length rest.now → line_at rest.now 0 n ≡ Some (Err refusal)) }
+{
+    let count = 2 * n + 2;
+    if !is_right(rest, count) {
+        return Err(Refusal::BadLine);
+    }
+    let digits = &rest[..count];
+    let (data, sum) = digits.split_at(2 * n);
+    if sum_of(data) % 256 != number(sum) {
+        return Err(Refusal::BadSum);
+    }
+    Ok(digits)
+}
+
+// Whether a text begins with n digits and a line feed.
+fn is_right(rest: &[u8], n: usize) -> bool
+    ensures { result ≡ (right_at rest.now 0 n == n + 1) }
+{
+    if leading_digits(rest, n) != n {
+        return false;
+    }
+    n < rest.len() && rest[n] == b'\n'
+}
+
+// The sum of bytes given as digits.
+fn sum_of(digits: &[u8]) -> u64
+    requires { length digits.now < 2 ^ 32 }
+    ensures { result ≡ sum_at digits.now 0 (length digits.now / byte_digits) }
 {
     let mut sum = 0;
-    let mut count = 0;
-    while count < n {
-        sum += hex_at(text, place, 2 * count, 2);
-        count += 1;
+    for byte in digits.chunks_exact(2) {
+        sum += number(byte);
     }
     sum
-}
-
-// The place past the first line feed at or after a place, or the end of the text where there is none.
-pub(crate) fn past_line_feed(text: &[u8], place: usize) -> usize
-    ensures { result ≡ past_line_feed text.now place }
-{
-    let mut next = place;
-    while next < text.len() {
-        if text[next] == b'\n' {
-            return next + 1;
-        }
-        next += 1;
-    }
-    next
 }

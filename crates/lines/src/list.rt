@@ -1,12 +1,14 @@
 // List lines (document 02, E4): the mark AA, 1 to 16 row numbers of one byte each, read at a place of a lent text. The numbers are not judged.
 
-ghost use Rattle.std.specs.Prelude.{[], ◌≡◌, ◌≤◌, ◌+◌};
-ghost use Rattle.row_list.specs.RowList.{list_limit};
-ghost use Rattle.lines.specs.Line.{next_place};
-ghost use Rattle.lines.specs.ListLine.{list_marked, list_count, list_at, rows_at, list_of, ReadsList};
+ghost use Rattle.std.specs.Prelude.{◌≡◌, ◌*◌, ◌/◌, ◌≤◌, ◌<◌, length, IfOk, Some, replicate};
+ghost use Rattle.row_list.specs.RowList.{list_limit, numbers_of};
+ghost use Rattle.lines.specs.Digits.{byte_digits};
+ghost use Rattle.lines.specs.Read.{found_said, numbers_read};
+ghost use Rattle.lines.specs.ListLine.{list_marked, list_count, list_of, rows_said, read_list, ReadsList};
 
-use crate::digits::{byte_at, digits_at, hex_at};
-use crate::line::{LineFound, LineRead, past_line_feed, read_line};
+use crate::digits::{leading_digits, number};
+use crate::line::{line_digits, rest_at};
+use crate::read::Read;
 use refusals::refusal::Refusal;
 use row_list::list::{LIST_LIMIT, RowList};
 
@@ -16,112 +18,52 @@ const MOST_BYTES: usize = 1 + LIST_LIMIT + 1;
 // Two digits for each of them, and the line feed.
 pub const LINE_BYTES: usize = 2 * MOST_BYTES + 1;
 
-#[derive(Drop)]
-pub enum ListFound {
-    // The place is at or past the end of the text.
-    End,
-    Rows,
-    // 8 or 9.
-    Refused(Refusal),
-}
-
-// What was found at a place, its row numbers (none where it is no list), and the place to read at next.
-#[derive(Drop)]
-pub struct ListRead {
-    pub found: ListFound,
-    pub list: RowList,
-    pub next: usize,
-}
-
 // What stands at a place, judged by form and sum alone: the end, a list, 8 or 9. Any place may be asked for.
-pub fn read_list(text: &[u8], place: usize) -> ListRead
+pub fn read_list(text: &[u8], place: usize) -> Read<RowList>
     ensures { ReadsList text.now place result }
 {
-    let count = list_count(text, place);
-    let read = list_at(text, place, count);
-    let next = read.next;
-    let line = read.line;
-    match line {
-        LineFound::End => ListRead {
-            found: ListFound::End,
-            list: no_rows(),
-            next,
-        },
-        LineFound::Good => ListRead {
-            found: ListFound::Rows,
-            list: rows_at(text, place, count),
-            next,
-        },
-        LineFound::Refused(refusal) => ListRead {
-            found: ListFound::Refused(refusal),
-            list: no_rows(),
-            next,
-        },
-    }
+    Read::at(text, place, first_list)
 }
 
 // "AA, with which no rule line may start": whether it stands at a place.
 pub fn is_list_line(text: &[u8], place: usize) -> bool
     ensures { result ≡ list_marked text.now place }
 {
-    if byte_at(text, place, 0) == b'A' {
-        return byte_at(text, place, 1) == b'A';
-    }
-    false
+    rest_at(text, place).starts_with(b"AA")
 }
 
-// How many row numbers the digits at a place leave room for, between the mark and the sum.
-fn list_count(text: &[u8], place: usize) -> usize
-    ensures { result ≡ list_count text.now place }
+// The list that a text begins with.
+fn first_list(rest: &[u8]) -> Result<RowList, Refusal>
+    ensures said { 0 < length rest.now → found_said numbers_of (Some result) ≡ (read_list rest.now 0).said }
+    ensures list { 0 < length rest.now → IfOk result (λ list. list ≡ list_of (rows_said (read_list rest.now 0).said)) }
 {
-    let bytes = digits_at(text, place, 2 * MOST_BYTES) / 2;
-    if bytes < 2 {
-        return 0;
+    let count = list_count(rest);
+    if count == 0 || !is_list_line(rest, 0) {
+        return Err(Refusal::BadLine);
     }
-    bytes - 2
+    let digits = line_digits(rest, 1 + count)?;
+    Ok(rows_of(&digits[2..digits.len() - 2]))
 }
 
-// A list line of so many numbers read at a place: judged by form and sum, whatever its numbers are.
-fn list_at(text: &[u8], place: usize, count: usize) -> LineRead
-    requires { count ≡ list_count text.now place }
-    ensures { (result.line ≡ list_at text.now place) × (result.next ≡ next_place result.line text.now place (1 + count)) }
+// How many row numbers the digits that a text begins with leave room for, between the mark and the sum.
+#[tactic(auto, unfolding(crate::specs::ListLine::list_count))]
+fn list_count(rest: &[u8]) -> usize
+    ensures { result ≡ list_count rest.now 0 }
 {
-    if text.len() <= place {
-        return LineRead {
-            line: LineFound::End,
-            next: place,
-        };
-    }
-    if is_list_line(text, place) {
-        if 1 <= count {
-            return read_line(text, place, 1 + count);
-        }
-    }
-    LineRead {
-        line: LineFound::Refused(Refusal::BadLine),
-        next: past_line_feed(text, place),
-    }
+    (leading_digits(rest, 2 * MOST_BYTES) / 2).saturating_sub(2)
 }
 
-// The row numbers after the mark, and 0 past the last.
-fn rows_at(text: &[u8], place: usize, count: usize) -> RowList
-    requires { count ≤ list_limit }
-    ensures { result ≡ list_of (rows_at text.now place count) }
+// The row numbers of these digits, and 0 past the last.
+fn rows_of(digits: &[u8]) -> RowList
+    requires { length digits.now ≤ byte_digits * list_limit }
+    ensures { result ≡ list_of (numbers_read digits.now 0 0 (replicate (length digits.now / byte_digits) 1)) }
 {
     let mut rows = [0; LIST_LIMIT];
-    let mut done = 0;
-    while done < count {
-        rows[done] = hex_at(text, place, 2 + 2 * done, 2) as u32;
-        done += 1;
+    for (row, row_digits) in digits.chunks_exact(2).enumerate() {
+        rows[row] = number(row_digits) as u32;
     }
-    RowList { rows, count }
-}
-
-fn no_rows() -> RowList
-    ensures { result ≡ list_of [] }
-{
     RowList {
-        rows: [0; LIST_LIMIT],
-        count: 0,
+        rows,
+        count: digits.len() / 2,
     }
 }

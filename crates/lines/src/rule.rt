@@ -1,68 +1,47 @@
 // Rule lines (document 01, "The program's text"): kind, x, y, a and b, eleven data bytes, read at a place of a lent text. The numbers are not judged.
 
-ghost use Rattle.lines.specs.Rule.{ReadsRule};
+ghost use Rattle.std.specs.Prelude.{◌≡◌, ◌<◌, length, Some};
+ghost use Rattle.lines.specs.Read.{found_said};
+ghost use Rattle.lines.specs.Rule.{rule_numbers, read_rule, ReadsRule};
 
-use crate::digits::hex_at;
-use crate::line::{LineFound, past_line_feed, read_line};
+use crate::digits::number;
+use crate::line::line_digits;
 use crate::list::is_list_line;
+use crate::read::Read;
 use refusals::refusal::Refusal;
 
 // Kind, x, y, a and b.
 const DATA_BYTES: usize = 11;
 
-#[derive(Drop)]
-pub enum RuleFound {
-    // The place is at or past the end of the text.
-    End,
-    Rule {
-        kind: u32,
-        x: u32,
-        y: u32,
-        a: u32,
-        b: u32,
-    },
-    // 8 or 9.
-    Refused(Refusal),
-}
-
-// What was found at a place, and the place to read at next.
-#[derive(Drop)]
-pub struct RuleRead {
-    pub found: RuleFound,
-    pub next: usize,
+#[derive(Clone, Copy, Debug, PartialEq, Eq)]
+pub struct Rule {
+    pub kind: u32,
+    pub x: u32,
+    pub y: u32,
+    pub a: u32,
+    pub b: u32,
 }
 
 // What stands at a place, judged by form and sum alone: the end, a rule, 8 or 9. A list line is none and refused 8. Any place may be asked for.
-pub fn read_rule(text: &[u8], place: usize) -> RuleRead
+pub fn read_rule(text: &[u8], place: usize) -> Read<Rule>
     ensures { ReadsRule text.now place result }
 {
-    if is_list_line(text, place) {
-        return RuleRead {
-            found: RuleFound::Refused(Refusal::BadLine),
-            next: past_line_feed(text, place),
-        };
+    Read::at(text, place, first_rule)
+}
+
+// The rule that a text begins with.
+fn first_rule(rest: &[u8]) -> Result<Rule, Refusal>
+    ensures { 0 < length rest.now → found_said rule_numbers (Some result) ≡ (read_rule rest.now 0).said }
+{
+    if is_list_line(rest, 0) {
+        return Err(Refusal::BadLine);
     }
-    let read = read_line(text, place, DATA_BYTES);
-    let next = read.next;
-    let line = read.line;
-    match line {
-        LineFound::End => RuleRead {
-            found: RuleFound::End,
-            next,
-        },
-        LineFound::Good => RuleRead {
-            found: RuleFound::Rule {
-                kind: hex_at(text, place, 0, 2) as u32,
-                x: hex_at(text, place, 2, 2) as u32,
-                y: hex_at(text, place, 4, 2) as u32,
-                a: hex_at(text, place, 6, 8) as u32,
-                b: hex_at(text, place, 14, 8) as u32,
-            },
-            next,
-        },
-        LineFound::Refused(refusal) => RuleRead {
-            found: RuleFound::Refused(refusal),
-            next,
-        },
-    }
+    let digits = line_digits(rest, DATA_BYTES)?;
+    Ok(Rule {
+        kind: number(&digits[..2]) as u32,
+        x: number(&digits[2..4]) as u32,
+        y: number(&digits[4..6]) as u32,
+        a: number(&digits[6..14]) as u32,
+        b: number(&digits[14..22]) as u32,
+    })
 }

@@ -35,18 +35,16 @@ use Rattle.sound_spans.proofs.SoundTold.{SoundStretch, stretch-told}
 use Rattle.sound_spans.proofs.StretchKept.{UpdateLeaves, sound-packed, sound-ready}
 use Rattle.soundness.specs.declared.record.Record.{Record}
 use Rattle.times.specs.Times.{time_limit}
-use Rattle.row_list.specs.RowList.{list_passes}
 use Rattle.row_list.specs.Truths.{truth_at}
 use Rattle.soundness.specs.Record.{was_seen, clock_of, event_time, held_at, stretch_at, spans_found}
 use Rattle.soundness.specs.Soundness.{sound_entry?, sound_limits?, sound_row?, sound?}
 use Rattle.soundness.specs.Ready.{ready_of, refusal_in}
 use Rattle.monitor.specs.Event.{Moment, spans_by, spans_left, spans_after, first_after, truths_after, ring_judged, ring_clipped, ring_now}
-use Rattle.monitor.specs.Core.{RowsLaid}
 use Rattle.soundness.specs.Setup.{Setup}
 use Rattle.monitor.specs.Step.{Call, time_of, unless, refusal_of}
 use Rattle.soundness.proofs.ReadyLaws.{Ready, ready_none}
 use Rattle.monitor.proofs.EventLaws.{length_stretch, RingFits, Room}
-use Rattle.monitor.proofs.ClippingLaws.{clipped_fits}
+use Rattle.monitor.proofs.ClippingLaws.{RowsLaid, clipped_fits}
 use Rattle.spans.proofs.ReachedLaws.{reach_storable}
 use Rattle.soundness.proofs.SoundnessLaws.{every-at, sound_parts}
 
@@ -59,7 +57,7 @@ pub record Accepted (table store : List ℕ) (found : Record) (time : ℕ) : Typ
 
 unless-none : (test : Bool) (refusal : Refusal) → unless test refusal ≡ none → test ≡ true
 unless-none true refusal h = refl
-unless-none false refusal h = let z : ◌≡◌ {A = ℕ} 0 1 = cc in absurd (omega arith)
+unless-none false refusal h = cc
 
 pub accepted : (setup : Setup) (store : List ℕ) (found : Record) (call : Call) → refusal_of setup store found call ≡ none
     → Accepted setup.table store found (time_of (clock_of found) call)
@@ -77,20 +75,6 @@ accepted setup store found call h =
       early = leb-true _ _ (unless-none (leb (time_of (clock_of found) call) time_limit) Late third.0);
       risen = leb-true _ _ (unless-none (leb (clock_of found) (time_of (clock_of found) call)) Earlier third.1);
     }
-
--- And the list passes.
-pub accepted_list : (setup : Setup) (store : List ℕ) (found : Record) (call : Call) → refusal_of setup store found call ≡ none
-    → list_passes setup.list (rows_of setup.table) ≡ true
-unfolding refusal_of
-accepted_list setup store found call h =
-    let first =
-    or_none (refusal_in (ready_of setup (length store)))
-    (unless (sound? setup.table store found) Unsound
-    or_else unless (leb (time_of (clock_of found) call) time_limit) Late
-    or_else unless (leb (clock_of found) (time_of (clock_of found) call)) Earlier)
-    h
-    in
-    (ready_none setup (length store) first.0).listed
 
 module _ (table store : List ℕ) (found : Record) (time : ℕ) (met : Accepted table store found time) where
   module _ (row : ℕ) (lower : row < rows_of table) where
@@ -203,7 +187,7 @@ module _ (m : Moment) (met : Accepted m.table m.store m.found m.time) (row : ℕ
       }
 
 -- The rows of the table can be clipped.
-pub rows-laid : (table store : List ℕ) (found : Record) (time : ℕ) → Accepted table store found time → RowsLaid table store found.counts found.firsts (rows_of table)
+pub rows-laid : (table store : List ℕ) (found : Record) (time : ℕ) → Accepted table store found time → RowsLaid table store found (rows_of table)
 rows-laid table store found time met =
     record {
       few = met.ready.passes.few-rows;
@@ -220,5 +204,5 @@ now_enough m met = go (heartbeat? m.mask)
     go : (heartbeat : Bool)
         → Room m.table (cond heartbeat (ring_clipped m.table m.store m.found.counts m.found.firsts m.time) (ring_judged m)) (rows_of m.table)
     go true row lower =
-        clipped_fits m.table m.store m.found.counts m.found.firsts (rows_of m.table) m.time row (rows-laid m.table m.store m.found m.time met) lower
+        clipped_fits m.table m.store m.found (rows_of m.table) m.time (rows-laid m.table m.store m.found m.time met) lower
     go false row lower = row_fits m met row lower (truths_after m row)

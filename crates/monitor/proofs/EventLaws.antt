@@ -3,20 +3,36 @@
 use mathlib.Core.Bool.{Bool, true, false, cond}
 use mathlib.Core.List.{List, append_assoc}
 use mathlib.Core.Path.{◌≡◌, refl, sym, ap, ◌∙◌}
-use Prim.Native.Nat.{ℕ, zero, suc, ◌+◌, ◌≤◌, ◌<◌}
+use Prim.Native.Nat.{ℕ, zero, suc, ◌+◌, ◌-◌, ◌≤◌, ◌<◌}
 use native.Mathlib.Numerals.{add-one}
 use native.Mathlib.Omega.{arith}
-use lib.ListN.{length, get_or, take, drop, set, length-append, length-drop, length-take}
+use lib.ListN.{length, take, drop, set, length-append, length-drop, length-take}
 use lib.Seq.{take_at, drop_at, drop-drop}
+use borrow.Rule.Slice.PartMut.{put_mid, Post-is}
 use Rattle.meaning.specs.Heartbeat.{heartbeat?}
 use Rattle.rules.specs.Rows.{numbers_at}
 use Rattle.rules.specs.Stretches.{spans_of, width, offset}
 use Rattle.rules.specs.declared.numbers.Numbers.{Numbers}
 use Rattle.spans.specs.Layout.{ring_of}
 use Rattle.soundness.specs.declared.record.Record.{Record}
-use Rattle.soundness.specs.Record.{stretch_at}
-use Rattle.monitor.specs.Event.{Moment, spans_after, spans_judged, spans_clipped, truth_of, Ring, ring_judged, ring_clipped, spans_now, entries_with, words_done, store_with}
-use Rattle.monitor.specs.Core.{moment, stretch_in, with_stretch, SpansLeft}
+use Rattle.soundness.specs.Record.{held_at, stretch_at}
+use Rattle.monitor.specs.Event.{
+  Moment,
+  spans_after,
+  spans_judged,
+  spans_clipped,
+  truth_of,
+  truths_after,
+  Ring,
+  ring_judged,
+  ring_clipped,
+  spans_now,
+  entries_with,
+  counts_with,
+  firsts_with,
+  words_done,
+  store_with,
+}
 use Rattle.spans.proofs.UpdateLaws.{FirstFits, length_ring}
 use Rattle.soundness.proofs.SoundnessLaws.{part_told}
 use Rattle.monitor.proofs.RisingLaws.{entry_left}
@@ -30,10 +46,10 @@ length_stretch table store row inside = simp (length-take, length-drop) (omega a
 -- The same event at two stores.
 module _ (table store other : List ℕ) (found : Record) (time mask : ℕ) where
   abbrev here : Moment
-  here = moment table store found time mask
+  here = record { table = table; store = store; found = found; time = time; mask = mask }
 
   abbrev there : Moment
-  there = moment table other found time mask
+  there = record { table = table; store = other; found = found; time = time; mask = mask }
 
   module _ (row : ℕ) (truths : List ℕ) (same : stretch_at table other row ≡ stretch_at table store row) where
     pub spans-same : spans_after there row truths ≡ spans_after here row truths
@@ -88,10 +104,33 @@ module _ (table : List ℕ) (rings : ℕ → Ring) where
     unfolding store_with
     words_left n room = drop_at (words_done table rings n) (drop (offset table n) store) (offset table n) (length_done n room)
 
+-- The record and the store after the rows below n, whose stretches end at a word: these are the truths then, and the rows have such rings.
+pub record AfterRows
+    (table store : List ℕ)
+    (found : Record)
+    (truths : ℕ → List ℕ)
+    (rings : ℕ → Ring)
+    (n from : ℕ)
+    (kept : Record)
+    (now : List ℕ)
+    : Type 0 where
+  pub place : from ≡ offset table n
+  pub left_is : kept ≡ record found { truths = truths n; counts = counts_with rings found.counts n; firsts = firsts_with rings found.firsts n }
+  pub store_is : now ≡ store_with table store rings n
+
+-- At a heartbeat, and at an event.
+abbrev pub Clipped : (table store : List ℕ) → Record → (time n from : ℕ) → Record → (now : List ℕ) → Type 0
+Clipped table store found time = AfterRows table store found (λ row. found.truths) (ring_clipped table store found.counts found.firsts time)
+
+abbrev pub Judged : Moment → (n from : ℕ) → Record → (now : List ℕ) → Type 0
+Judged m = AfterRows m.table m.store m.found (truths_after m) (ring_judged m)
+
 -- The rows of a table one after the other, each stretch within the store and each row's spans with room in it: the store is what is done and the rest as
 -- found.
 module _
-    (table store counts firsts : List ℕ)
+    (table store : List ℕ)
+    (found : Record)
+    (truths : ℕ → List ℕ)
     (rings : ℕ → Ring)
     (rows : ℕ)
     (inside : (r : ℕ) → r < rows → offset table r + width (numbers_at table r) ≤ length store)
@@ -105,7 +144,7 @@ module _
     offset-within zero within = omega arith
     offset-within (suc n) within = inside n (omega arith)
 
-    pub length-after : (n : ℕ) → n ≤ rows → length (store_with table store rings n) ≡ length store
+    length-after : (n : ℕ) → n ≤ rows → length (store_with table store rings n) ≡ length store
     length-after n within = length-store table rings store n (room-below n within) (offset-within n within)
 
     -- The words from the next stretch on are as found.
@@ -119,48 +158,54 @@ module _
     unfolding stretch_at
     stretch-after n within = rw (words_left table rings store n (room-below n within))
 
-    -- The next row: its numbers and its count as they were read.
+    -- The next row: its numbers and the words of its stretch as they were read.
     module _
-        {n from count first : ℕ}
+        {n from words : ℕ}
         {numbers : Numbers}
-        {counts_now firsts_now current : List ℕ}
+        {kept : Record}
+        {now : List ℕ}
         (lower : n < rows)
-        (place : from ≡ offset table n)
-        (done : SpansLeft table store counts firsts rings n counts_now firsts_now current)
+        (done : AfterRows table store found truths rings n from kept now)
         (read : numbers ≡ numbers_at table n)
-        (counted : count ≡ get_or counts_now n 0)
-        (placed : first ≡ get_or firsts_now n 0)
+        (size : words ≡ width numbers)
       where
-        pub count-found : count ≡ get_or counts n 0
-        count-found = rw (counted, done.counts_are, entry_left (λ row. length (rings row).spans) counts n n (omega arith))
+        pub held-found : held_at kept n ≡ held_at found n
+        held-found =
+            rw (
+              done.left_is,
+              entry_left (λ row. length (rings row).spans) found.counts n n (omega arith),
+              entry_left (λ row. (rings row).first) found.firsts n n (omega arith),
+            )
 
-        pub first_found : first ≡ get_or firsts n 0
-        first_found = rw (placed, done.firsts_are, entry_left (λ row. (rings row).first) firsts n n (omega arith))
+        pub part-found : take (from + words - from) (drop from now) ≡ stretch_at table store n
+        part-found = part_told table now n read done.place size ∙ rw done.store_is (stretch-after n (omega arith))
 
-        pub part-found : stretch_in from (from + width numbers) current ≡ stretch_at table store n
-        part-found = part_told table current n read place refl ∙ rw done.store_is (stretch-after n (omega arith))
-
-        pub part-inside : from + width numbers ≤ length current
-        part-inside = rw (place, read, done.store_is, length-after n (omega arith)) (inside n lower)
+        pub part-inside : from + words ≤ length now
+        part-inside = rw (size, done.place, read, done.store_is, length-after n (omega arith)) (inside n lower)
 
         -- Its spans are written and counted, and the first of them is placed.
-        pub spans-turn : {after : List ℕ} {left start : ℕ}
-            → after ≡ with_stretch from (from + width numbers) current (ring_of (width numbers) start (rings n).spans)
-            → left ≡ length (rings n).spans
-            → start ≡ (rings n).first
-            → SpansLeft table store counts firsts rings (n + 1) (set counts_now n left) (set firsts_now n start) after
+        pub rows-turn : {truths_now written : List ℕ} {count first : ℕ}
+            → truths_now ≡ truths (n + 1)
+            → count ≡ length (rings n).spans
+            → first ≡ (rings n).first
+            → written ≡ ring_of (width numbers) first (rings n).spans
+            → AfterRows table store found truths rings (n + 1) (from + words)
+            (record kept { truths = truths_now; counts = set kept.counts n count; firsts = set kept.firsts n first })
+            (put_mid from (from + words - from) now written)
         unfolding entries_with store_with words_done offset
-        spans-turn written told starts =
+        rows-turn told counted starts spanned =
             record {
-              counts_are = rw (add-one, told, done.counts_are);
-              firsts_are = rw (add-one, starts, done.firsts_are);
+              place = rw (size, done.place, read, add-one);
+              left_is = rw (told, add-one, counted, starts, done.left_is);
               store_is =
-                  written
-                  ∙ rw (
+                  rw (
+                    Post-is from (from + words) now (omega arith),
+                    spanned,
+                    size,
                     read,
                     starts,
                     done.store_is,
-                    place,
+                    done.place,
                     words-done table rings store n (room-below n (omega arith)),
                     later-after n (width (numbers_at table n)) (omega arith),
                     add-one,

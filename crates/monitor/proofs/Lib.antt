@@ -1,6 +1,5 @@
 -- Laws that belong to no one function.
 pub mod StartLaws
-pub mod RuleLaws
 pub mod RowLaws
 pub mod RisingLaws
 pub mod EventLaws

@@ -15,7 +15,7 @@ use Rattle.spans.specs.Stretch.{covered, kept_of, first_left}
 use Rattle.soundness.specs.declared.record.Record.{Record}
 use Rattle.monitor.specs.declared.event.Arrival.{Arrival}
 use Rattle.row_list.specs.Truths.{byte_of, is_true, truth_at}
-use Rattle.soundness.specs.Record.{clock_of, event_time, held_in, held_at, stretch_at, spans_found}
+use Rattle.soundness.specs.Record.{event_time, held_in, held_at, stretch_at, spans_found}
 
 -- An event or a heartbeat, and what it meets: the table, the store and the record as they were found.
 pub record Moment : Type 0 where
@@ -25,9 +25,9 @@ pub record Moment : Type 0 where
   pub time : ℕ
   pub mask : ℕ
 
--- The event beside what the record tells of those before it.
+-- The event beside what the record tells of the one before it.
 abbrev pub arrival_of : Moment → Arrival
-arrival_of m = record { time = m.time; mask = m.mask; clock = clock_of m.found; seen = m.found.seen; last = event_time m.found }
+arrival_of m = record { time = m.time; mask = m.mask; seen = m.found.seen; last = event_time m.found; truths = m.found.truths }
 
 -- "a since row's spans are clipped at t and ended ones dropped, then all dropped if x is now false, then t+a to t+b is joined in if y is true";
 -- what keeps and what feeds, by the kind's columns and the truths of the lower rows at this event. A row without a stretch holds no spans.
@@ -52,23 +52,23 @@ spans_after m row truths =
     spans_by m.time truths (spans_found m.table m.store m.found row) (numbers_at m.table row) (rule_of (numbers_at m.table row))
 
 -- "kind 5 uses the truth and time found (false if no event was seen)".
-abbrev pub previous_held : Arrival → (found : List ℕ) → Numbers → Bool
-previous_held e found row = is_true e.seen && truth_at found row.x && within? row.a (end_of row.b) e.last e.time
+abbrev pub previous_held : Arrival → Numbers → Bool
+previous_held e row = is_true e.seen && truth_at e.truths row.x && within? row.a (end_of row.b) e.last e.time
 
 -- The meaning of a row by its kind, from the truths found and those of the lower rows at this event. "The row is true at t exactly when t lies in a
 -- span", or in none, by the kind's column.
-abbrev pub truth_by : Arrival → (found truths : List ℕ) → List Span → Numbers → Rule → Bool
-truth_by e found truths after row (plain Plain.Truth) = true
-truth_by e found truths after row (plain Plain.Bit) = bit_set? row.x e.mask
-truth_by e found truths after row (plain Plain.Negation) = not (truth_at truths row.x)
-truth_by e found truths after row (plain Plain.Both) = truth_at truths row.x && truth_at truths row.y
-truth_by e found truths after row (plain Plain.Either) = truth_at truths row.x || truth_at truths row.y
-truth_by e found truths after row (plain Plain.Previous) = previous_held e found row
-truth_by e found truths after row (stretch columns) = taken not columns.inside (covered e.time after)
+abbrev pub truth_by : Arrival → (truths : List ℕ) → List Span → Numbers → Rule → Bool
+truth_by e truths after row (plain Plain.Truth) = true
+truth_by e truths after row (plain Plain.Bit) = bit_set? row.x e.mask
+truth_by e truths after row (plain Plain.Negation) = not (truth_at truths row.x)
+truth_by e truths after row (plain Plain.Both) = truth_at truths row.x && truth_at truths row.y
+truth_by e truths after row (plain Plain.Either) = truth_at truths row.x || truth_at truths row.y
+truth_by e truths after row (plain Plain.Previous) = previous_held e row
+truth_by e truths after row (stretch columns) = taken not columns.inside (covered e.time after)
 
 unfoldable pub truth_of : Moment → ℕ → List ℕ → Bool
 truth_of m row truths =
-    truth_by (arrival_of m) m.found.truths truths (spans_after m row truths) (numbers_at m.table row) (rule_of (numbers_at m.table row))
+    truth_by (arrival_of m) truths (spans_after m row truths) (numbers_at m.table row) (rule_of (numbers_at m.table row))
 
 -- "rows rising": the truths after the rows below n, the others as found.
 unfoldable pub truths_after : Moment → ℕ → List ℕ

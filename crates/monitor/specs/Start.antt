@@ -1,12 +1,11 @@
 -- A start (document 01, "Refusal numbers"; document 02, E4): "A refused start gives an all-zero record, row count 0, store untouched. A good start writes 0 to
 -- every word of the need."
-use Rattle.std.specs.Prelude.{List, ◌++◌, ◌≡◌, ℕ, length, drop, replicate}
+use Rattle.std.specs.Prelude.{List, ◌++◌, ◌≡◌, ℕ, length, drop, replicate, Result, Ok, Err}
 use Rattle.std.proofs.Math.Option.{Option, none, some}
 use Rattle.refusals.specs.Refusals.{Refused, refused}
+use Rattle.refusals.specs.declared.refusal.Refusal.{Refusal}
 use Rattle.rules.specs.Table.{CheckReply, passed, refused_by}
 use Rattle.soundness.specs.declared.record.Record.{Record}
-use Rattle.monitor.specs.declared.answer.StartAnswer.{StartAnswer}
-use Rattle.monitor.specs.declared.answer.Started.{Started}
 use Rattle.soundness.specs.Record.{nothing_seen}
 use Rattle.soundness.specs.Setup.{Setup}
 use Rattle.soundness.specs.Ready.{ready_of}
@@ -26,19 +25,19 @@ begin store (refused_by fault) = record { refusal = some fault; need = 0; given 
 unfoldable pub start_of : Setup → List ℕ → Beginning
 start_of setup store = begin store (ready_of setup (length store))
 
--- What an answer says, with the store at exit.
-abbrev pub start_refusal : StartAnswer → Option Refused
-start_refusal (StartAnswer.Good need) = none
-start_refusal (StartAnswer.Refused refusal) = some (refused refusal)
+-- What an answer says, with the record and the store at exit.
+abbrev pub start_refusal : Result ℕ Refusal → Option Refused
+start_refusal (Ok need) = none
+start_refusal (Err refusal) = some (refused refusal)
 
-abbrev pub start_need : StartAnswer → ℕ
-start_need (StartAnswer.Good need) = need
-start_need (StartAnswer.Refused refusal) = 0
+abbrev pub start_need : Result ℕ Refusal → ℕ
+start_need (Ok need) = need
+start_need (Err refusal) = 0
 
-abbrev pub said_start : Started → List ℕ → Beginning
-said_start started store =
-    record { refusal = start_refusal started.answer; need = start_need started.answer; given = started.record; store = store }
+abbrev pub said_start : Result ℕ Refusal → Record → List ℕ → Beginning
+said_start answer given store =
+    record { refusal = start_refusal answer; need = start_need answer; given = given; store = store }
 
 -- What `start` promises: its answer, the record and every word of the store at exit say this.
-abbrev pub StartGives : Setup → (store : List ℕ) → Started → (after : List ℕ) → Type 0
-StartGives setup store started after = said_start started after ≡ start_of setup store
+abbrev pub StartGives : Setup → (store : List ℕ) → Result ℕ Refusal → Record → (after : List ℕ) → Type 0
+StartGives setup store answer given after = said_start answer given after ≡ start_of setup store

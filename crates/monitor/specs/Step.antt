@@ -1,14 +1,13 @@
 -- One call, an event or a frame, a heartbeat or not: what it answers and what it leaves, for every input (document 01, "Refusal numbers" and "Lines from
 -- the board"; document 02, E2 and E4).
-use Rattle.std.specs.Prelude.{Bool, true, false, List, ◌≡◌, ℕ, leb, length, get_or}
+use Rattle.std.specs.Prelude.{Bool, true, false, List, ◌≡◌, ℕ, leb, length, get_or, Result, Ok, Err}
 use Rattle.std.proofs.Math.Option.{Option, none, some}
 use Rattle.meaning.specs.FrameTime.{frame_time}
 use Rattle.refusals.specs.Refusals.{Refused, refused, ◌or_else◌}
 use Rattle.refusals.specs.declared.refusal.Refusal.{Refusal}
 use Rattle.refusals.specs.declared.refusal.Refusal.TheVariants.{Earlier, Late, Unsound}
 use Rattle.soundness.specs.declared.record.Record.{Record}
-use Rattle.monitor.specs.declared.answer.Answer.{Answer}
-use Rattle.monitor.specs.declared.answer.Judged.{Judged}
+use Rattle.monitor.specs.declared.answer.Accepted.{Accepted}
 use Rattle.times.specs.Times.{time_limit}
 use Rattle.row_list.specs.Verdict.{verdict_number}
 use Rattle.soundness.specs.Record.{clock_of}
@@ -82,15 +81,15 @@ unfoldable pub step_of : Setup → List ℕ → Record → Call → Outcome
 step_of setup store found call =
     outcome_by setup store found (moment_of setup store found call) (refusal_of setup store found call)
 
--- What an answer says, with the record beside it and the store at exit.
-abbrev pub said : Answer → Reply
-said (Answer.Verdict number) = verdict number
-said Answer.ClockMoved = clock_moved
-said (Answer.Refused fault) = refusal (refused fault)
+-- What an answer says, with the record and the store at exit.
+abbrev pub said : Result Accepted Refusal → Reply
+said (Ok (Accepted.Verdict number)) = verdict number
+said (Ok Accepted.ClockMoved) = clock_moved
+said (Err fault) = refusal (refused fault)
 
-abbrev pub said_step : Judged → List ℕ → Outcome
-said_step judged store = record { reply = said judged.answer; left = judged.record; store = store }
+abbrev pub said_step : Result Accepted Refusal → Record → List ℕ → Outcome
+said_step answer left store = record { reply = said answer; left = left; store = store }
 
 -- What `event` and `frame` promise of the call that each makes: the answer, the record and every word of the store at exit say this.
-abbrev pub StepGives : Setup → (store : List ℕ) → Record → Call → Judged → (after : List ℕ) → Type 0
-StepGives setup store found call judged after = said_step judged after ≡ step_of setup store found call
+abbrev pub StepGives : Setup → (store : List ℕ) → Record → Call → Result Accepted Refusal → Record → (after : List ℕ) → Type 0
+StepGives setup store found call answer left after = said_step answer left after ≡ step_of setup store found call

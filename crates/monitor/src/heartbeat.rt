@@ -1,52 +1,36 @@
-// A heartbeat (document 02, E2): every row's spans are clipped at its time, and nothing else of the rows changes. It refuses nothing; whoever calls has
-// checked the table, the store, the record and the time.
+// A heartbeat (document 02, E2): every row's spans are clipped at its time, the clock moves to it, and nothing else of the record changes. It refuses
+// nothing; whoever calls has checked the table, the store, the record and the time.
 
-ghost use Rattle.monitor.specs.Event.{ring_clipped};
-ghost use Rattle.monitor.specs.Core.{ClipReady, ClippedIn, SpansLeft, RowsLaid};
-ghost use Rattle.soundness.specs.Record.{held_of};
+ghost use Rattle.std.specs.Prelude.{true, ℕ, ◌≡◌};
+ghost use Rattle.meaning.specs.Heartbeat.{heartbeat?};
+ghost use Rattle.soundness.specs.Setup.{setup_in};
+ghost use Rattle.monitor.specs.Step.{event, moment_of};
+ghost use Rattle.monitor.specs.Core.{Unrefused, Left};
 
-use rules::limits::ROW_LIMIT;
 use rules::numbers::numbers_at;
-use rules::stretch;
+use rules::stretch::words;
+use soundness::record::Record;
+use soundness::setup::Setup;
 use spans::stretch::{Held, clip};
 
-// Every stretch is clipped. The arrays hold the found counts and first places, and then those after the heartbeat.
-pub(crate) fn clip_rows(
-    table: &[u32],
-    store: &mut [u64],
-    rows: usize,
-    time: u64,
-    counts: &mut [u32; ROW_LIMIT],
-    firsts: &mut [u32; ROW_LIMIT],
-)
-    requires { RowsLaid table.now store.old counts.old firsts.old rows }
-    ensures { SpansLeft table.now store.old counts.old firsts.old
-        (ring_clipped table.now store.old counts.old firsts.old time) rows
-        counts.new firsts.new store.new }
+// Every stretch is clipped, and the clock moves. The rows are gone through as in `judge_rows`, but a row is given other things and leaves others: one loop
+// for both would have to take a turn as a closure over all of them.
+pub(crate) fn clip_rows(setup: Setup, store: &mut [u64], kept: &mut Record, time: u64)
+    requires { Unrefused (setup_in setup) store.old kept.old time }
+    ensures { (mask : ℕ) → heartbeat? mask ≡ true → Left (moment_of (setup_in setup.entry) store.old kept.old (event time mask)) kept.new store.new }
 {
+    let rows = kept.rows as usize;
     let mut from = 0;
-    let mut row = 0;
-    while row < rows {
-        let numbers = numbers_at(table, row);
-        let end = from + stretch::words(numbers) as usize;
-        let count = counts[row];
-        let first = firsts[row];
-        let left = clip_in(store, from, end, first, count, time);
-        counts[row] = left.count as u32;
-        firsts[row] = left.first as u32;
+    for row in 0..rows {
+        let end = from + words(numbers_at(setup.table, row)) as usize;
+        let held = Held {
+            first: kept.firsts[row] as usize,
+            count: kept.counts[row] as usize,
+        };
+        let left = clip(&mut store[from..end], held, time);
+        kept.counts[row] = left.count as u32;
+        kept.firsts[row] = left.first as u32;
         from = end;
-        row += 1;
     }
-}
-
-// The stretch from word `from` to word `end` of the store is lent on as a mutable part; its other words stay. What is left of its spans.
-fn clip_in(store: &mut [u64], from: usize, end: usize, first: u32, count: u32, time: u64) -> Held
-    requires { ClipReady from end store.old (held_of first count) }
-    ensures { ClippedIn from end store.old (held_of first count) time result store.new }
-{
-    let held = Held {
-        first: first as usize,
-        count: count as usize,
-    };
-    clip(&mut store[from..end], held, time)
+    kept.clock = time;
 }

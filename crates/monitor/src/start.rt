@@ -1,32 +1,22 @@
 // The start: an empty record, and zeros in the words of the need.
 
-ghost use Rattle.soundness.specs.Setup.{setup_of};
+ghost use Rattle.soundness.specs.Setup.{setup_in};
 ghost use Rattle.monitor.specs.Start.{StartGives};
 
-use crate::answer::{StartAnswer, Started};
-use rules::table::Checked;
+use refusals::refusal::Refusal;
+use rules::table::Passed;
 use soundness::ready::ready;
-use soundness::record::nothing_seen;
-use spans::words::clear_words;
+use soundness::record::{Record, nothing_seen};
+use soundness::setup::Setup;
 
-// The need and a record with nothing seen, or a refusal 1 to 3, 10, 11 or 4 and an all-zero record. A good start writes 0 to every word of the need and no other.
-pub fn start(table: &[u32], list: &[u32], store: &mut [u64]) -> Started
-    ensures { StartGives (setup_of table.now list.now) store.old result store.new }
+// The need, or a refusal 1 to 3, 10, 11 or 4. The record becomes one with nothing seen, all zero where the start is refused, whatever stood there. A good
+// start writes 0 to every word of the need and no other.
+pub fn start(setup: Setup, store: &mut [u64], given: &mut Record) -> Result<u64, Refusal>
+    ensures { StartGives (setup_in setup.entry) store.old result given.new store.new }
 {
-    let room = store.len();
-    let checked = ready(table, list, room);
-    match checked {
-        Checked::Refused(refusal) => Started {
-            answer: StartAnswer::Refused(refusal),
-            record: nothing_seen(0),
-        },
-        Checked::Passed { rows, need } => {
-            let words = need as usize;
-            clear_words(&mut store[0..words]);
-            Started {
-                answer: StartAnswer::Good { need },
-                record: nothing_seen(rows),
-            }
-        }
-    }
+    *given = nothing_seen(0);
+    let Passed { rows, need } = ready(setup, store.len())?;
+    store[..need as usize].fill(0);
+    *given = nothing_seen(rows);
+    Ok(need)
 }

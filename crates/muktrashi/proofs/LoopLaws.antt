@@ -2,7 +2,7 @@
 use mathlib.Core.Bool.{true, false}
 use mathlib.Core.List.{List, [], ◌∷◌, ◌++◌}
 use mathlib.Core.Path.{◌≡◌, refl, sym, ap, ◌∙◌}
-use Prim.Native.Nat.{ℕ, ◌+◌, ◌≤◌, ◌<◌}
+use Prim.Native.Nat.{ℕ, ◌+◌, ◌<◌}
 use native.Mathlib.Omega.{arith}
 use lib.ListN.{length, take, length-append}
 use lib.Seq.{take-length}
@@ -10,11 +10,11 @@ use Rattle.text.specs.declared.feed.Fed.{Fed}
 use Rattle.text.specs.declared.state.State.{State}
 use Rattle.text.specs.Replies.{Wrote}
 use Rattle.text.specs.Transcript.{empty_store}
-use Rattle.text.specs.Feed.{Memory, piece_fed, memory_of, fresh, text_end, step_fed, Stepped}
+use Rattle.text.specs.Feed.{Memory, piece_fed, memory_of, fresh, text_end, Stepped}
 use Rattle.text.specs.Course.{Lent, course}
 use Rattle.text.proofs.CourseLaws.{left-more, taken_more, joined-more}
 use Rattle.text.proofs.ShortLaws.{step_all}
-use Rattle.text.proofs.WroteLaws.{wrote-fits, wrote-begins}
+use Rattle.text.proofs.WroteLaws.{wrote-begins}
 use Rattle.muktrashi.specs.Loop.{ReadyForWhole, TakenWhole, NoneEmpty, Went, Looped}
 
 pub went-first : (table store : List ℕ) (state : State) → state ≡ fresh → store ≡ empty_store → Went table 0 state table store
@@ -30,23 +30,21 @@ none_empty_more : (lents : List Lent) (lent : Lent) → NoneEmpty lents → 0 < 
 none_empty_more [] lent none some = (some, tt)
 none_empty_more (first ∷ lents) lent none some = (none.0, none_empty_more lents lent none.1 some)
 
--- A step that is ready for its whole piece takes it whole, and what it wrote fits.
-module _ (state : State) (table store piece out : List ℕ) (fed : Fed) (table' store' after : List ℕ) where
-  pub taken-whole : ReadyForWhole state table piece out → Stepped state table store piece out fed table' store' after
-      → TakenWhole state table store piece out fed table' store' after
+-- A step that is ready for its whole piece takes it whole.
+module _ (state : State) (table store piece out : List ℕ) (state' : State) (table' store' : List ℕ) (fed : Fed) (after : List ℕ) where
+  pub taken-whole : ReadyForWhole state table piece out → Stepped state table store piece out state' table' store' fed after
+      → TakenWhole state table store piece out state' table' store' fed after
   taken-whole ready stepped =
       let all = step_all (memory_of state table store) (length out) piece ready.counted ready.rows ready.lines in
       record { whole = stepped.used ∙ all; stepped = stepped }
 
-  pub whole-fits : TakenWhole state table store piece out fed table' store' after → length after ≡ length out → fed.wrote ≤ length after
-  whole-fits taken same = wrote-fits out (step_fed state table store piece out).text fed.wrote after taken.stepped.wrote same
-
-pub went_on : (lent-table : List ℕ) (turns : ℕ) (state : State) (table store piece out : List ℕ) (fed : Fed) (table' store' after : List ℕ)
+pub went_on : (lent-table : List ℕ) (turns : ℕ) (state : State) (table store piece out : List ℕ)
+    (state' : State) (table' store' : List ℕ) (fed : Fed) (after : List ℕ)
     → Went lent-table turns state table store
     → 0 < length piece
-    → TakenWhole state table store piece out fed table' store' after
-    → Went lent-table (turns + 1) fed.state table' store'
-went_on lent-table turns state table store piece out fed table' store' after went some taken =
+    → TakenWhole state table store piece out state' table' store' fed after
+    → Went lent-table (turns + 1) state' table' store'
+went_on lent-table turns state table store piece out state' table' store' fed after went some taken =
     let m : Memory = memory_of fresh lent-table empty_store in
     let lents : List Lent = went.lents in
     let lent : Lent = record { piece = piece; room = length out } in
@@ -71,6 +69,6 @@ module _ (lent-table : List ℕ) (turns : ℕ) (state : State) (table store : Li
   looped_on out = record { went = went; last = λ is. not_ended is }
 
   pub looped_end : (out : List ℕ) (wrote : ℕ) (after : List ℕ)
-      → Wrote out 0 (text_end state) wrote after
+      → Wrote out (text_end state) wrote after
       → Looped lent-table (record { state = state; turns = turns; ended = true }) table store after
   looped_end out wrote after w = record { went = went; last = λ is. wrote-begins out (text_end state) wrote after w }

@@ -26,9 +26,11 @@ pub record ReadyForWhole (state : State) (table piece out : List ℕ) : Type 0 w
   pub lines : longest_reply * length piece ≤ length out
 
 -- A step that leaves no byte of its piece.
-pub record TakenWhole (state : State) (table store piece out : List ℕ) (fed : Fed) (table' store' after : List ℕ) : Type 0 where
+pub record TakenWhole
+    (state : State) (table store piece out : List ℕ)
+    (state' : State) (table' store' : List ℕ) (fed : Fed) (after : List ℕ) : Type 0 where
   pub whole : fed.used ≡ length piece
-  pub stepped : Stepped state table store piece out fed table' store' after
+  pub stepped : Stepped state table store piece out state' table' store' fed after
 
 -- A read that gives no byte is the text's end, not a piece.
 abbrev pub NoneEmpty : List Lent → Type 0

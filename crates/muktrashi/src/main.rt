@@ -22,6 +22,7 @@ const PIECE_BYTES: usize = 4096;
 // Room for a line a byte, so that every piece is taken whole.
 const OUTPUT_BYTES: usize = PIECE_BYTES * LONGEST_REPLY;
 
+#[tactic(auto, unfolding(text::specs::Transcript::empty_store))]
 fn main(rt: HostRuntime) {
     let mut table = [0u32; ROW_LIMIT * ROW_NUMBERS];
     let mut store = [0u64; STORE_WORDS];
@@ -37,8 +38,8 @@ fn main(rt: HostRuntime) {
     );
 }
 
-// The state that the loop ends in, how many pieces it took, and whether it ended at the text's end.
-#[derive(Drop)]
+// The state that the loop ends in and how many pieces it took, which are told either way; and whether it ended at the text's end.
+#[derive(Clone, Copy)]
 struct Ran {
     state: State,
     turns: u64,
@@ -58,59 +59,53 @@ fn run(
     ensures { Looped table.old result table.new store.new out.new }
 {
     let mut state = fresh();
-    let mut turns = 0;
-    while turns < u64::MAX {
+    for turns in 0..u64::MAX {
         let n = bytes_read(stdin, piece);
         if n == 0 {
-            end(stdout, state, out);
+            end(stdout, &state, out);
             return Ran {
                 state,
                 turns,
                 ended: true,
             };
         }
-        let fed = take_whole(state, table, store, &piece[..n], out);
-        let left = fed.state;
-        state = left;
-        turns += 1;
-        let wrote = fed.wrote;
-        if !took_all(stdout, &out[..wrote]) {
+        let fed = take_whole(&mut state, table, store, &piece[..n], out);
+        if !took_all(stdout, &out[..fed.wrote]) {
             return Ran {
                 state,
-                turns,
+                turns: turns + 1,
                 ended: false,
             };
         }
     }
     Ran {
         state,
-        turns,
+        turns: u64::MAX,
         ended: false,
     }
 }
 
 // A step that leaves no byte of the piece: the output has room for a line a byte.
 fn take_whole(
-    state: State,
+    state: &mut State,
     table: &mut [u32],
     store: &mut [u64],
     piece: &[u8],
     out: &mut [u8],
 ) -> Fed
-    requires { ReadyForWhole state table.old piece.now out.old }
-    ensures { TakenWhole state table.old store.old piece.now out.old
-        result table.new store.new out.new }
+    requires { ReadyForWhole state.old table.old piece.now out.old }
+    ensures { TakenWhole state.old table.old store.old piece.now out.old
+        state.new table.new store.new result out.new }
 {
     step(state, table, store, piece, out)
 }
 
 // A read that ends, or fails, is the text's end. How many bytes it brings, from the output's start.
-fn end(stdout: Stdout, state: State, out: &mut [u8]) -> usize
+fn end(stdout: Stdout, state: &State, out: &mut [u8]) -> usize
     requires { longest_reply ≤ length out.old }
-    ensures { Wrote out.old 0 (text_end state) result out.new }
+    ensures { Wrote out.old (text_end state.now) result out.new }
 {
-    let finished = finish(state, out);
-    let wrote = finished.wrote;
+    let wrote = finish(state, out).unwrap_or(0);
     took_all(stdout, &out[..wrote]);
     wrote
 }
@@ -119,10 +114,7 @@ fn end(stdout: Stdout, state: State, out: &mut [u8]) -> usize
 fn bytes_read(mut stdin: Stdin, piece: &mut [u8]) -> usize
     ensures { result ≤ length piece.new }
 {
-    match stdin.read(piece) {
-        Ok(n) => n,
-        Err(_) => 0,
-    }
+    stdin.read(piece).unwrap_or(0)
 }
 
 // Whether standard output took all of the text. After a write that fails it may have taken some of it.

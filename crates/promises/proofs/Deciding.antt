@@ -7,7 +7,7 @@ use native.Mathlib.Nat.{eq-or-lt_of_le, le_of_suc-le-suc}
 use native.Mathlib.Omega.{arith}
 use lib.Dec.{T}
 use Rattle.meaning.proofs.Truths.{no_truth}
-use Rattle.meaning.proofs.Tells.{Tells, tells_flag, tells_and, tells_same, told_false}
+use Rattle.meaning.proofs.Tells.{Tells, tells_and, tells_same}
 use Rattle.refusals.specs.Refusals.{Refused}
 use Rattle.soundness.specs.Soundness.{every}
 
@@ -39,9 +39,6 @@ tells_every (suc n) test A told =
     (tells_and (tells_every n test A (λ row lower. told row (omega arith))) (told n (omega arith)))
 
 -- What holds where a flag is not set.
-pub not_set : (flag : Bool) → ¬ T flag → flag ≡ false
-not_set flag none = told_false (tells_flag flag) none
-
 pub unset : (flag : Bool) → flag ≡ false → ¬ T flag
 unset true e set = let clash : ◌≡◌ {A = ℕ} 0 1 = cc in omega arith
 unset false e set = set

@@ -76,7 +76,7 @@ module _ (m : Moment) (h : History) (of : ℕ → Formula) (r : ℕ) (row : Numb
   plain-told : (says : Plain) (after : List Span)
       → Lower
       → PlainNames r row says
-      → Tells (truth_by (arrival_of m) m.found.truths truths after row (plain says)) (Holds (formula of row (plain says)) (event ∷ h))
+      → Tells (truth_by (arrival_of m) truths after row (plain says)) (Holds (formula of row (plain says)) (event ∷ h))
   unfolding Holds
   plain-told Plain.Truth after lower names = record { sound = λ _. tt; complete = λ _. tt }
   plain-told Plain.Bit after lower names = tells_eqb _ 1
@@ -165,7 +165,7 @@ module _ {table : List ℕ} {h : History} {clock : ℕ} {s : State} (inv : Invar
     truth-by : (rule : Rule) (after : List Span)
         → Names row numbers rule
         → Spanned table row longer time rule after
-        → Tells (truth_by (arrival_of m) s.found.truths (truths_after m row) after numbers rule) (Holds (formula (formula_of table) numbers rule) longer)
+        → Tells (truth_by (arrival_of m) (truths_after m row) after numbers rule) (Holds (formula (formula_of table) numbers rule) longer)
     truth-by (plain says) after names spanned = plain-told m h (formula_of table) row numbers (truths_after m row) says after lower names
     truth-by (stretch columns) after names spanned =
         let means =

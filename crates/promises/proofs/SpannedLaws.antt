@@ -1,5 +1,5 @@
--- The spans that a row should hold are sound and have room in its stretch; before any event there are none.
-use mathlib.Core.List.{List, []}
+-- The spans that a row should hold are sound and have room in its stretch.
+use mathlib.Core.List.{List}
 use mathlib.Core.Path.{◌≡◌, ap}
 use Prim.Native.Nat.{ℕ, ◌+◌, ◌≤◌, max}
 use native.Mathlib.Omega.{arith}
@@ -9,7 +9,6 @@ use Rattle.meaning.specs.History.{History, last_time}
 use Rattle.meaning.specs.Spans.{Span}
 use Rattle.meaning.proofs.HistoryLaws.{NoLater}
 use Rattle.meaning.proofs.SoundLaws.{none-sound, runs-sound}
-use Rattle.meaning.proofs.RunsLaws.{runs-only, runs_none}
 use Rattle.meaning.proofs.FigureLaws.{figure_is_enough}
 use Rattle.kinds.specs.Kinds.{Rule, plain, stretch}
 use Rattle.rules.specs.Rows.{numbers_at}
@@ -43,9 +42,3 @@ module _ (table : List ℕ) (row : ℕ) (h : History) (clock : ℕ) where
       let a = (numbers_at table row).a in
       figure_is_enough clock (max clock (last_time h + a)) (last_time h) a (end_of (numbers_at table row).b) S past
       (spanned_sound ordered range (stretch columns) S spanned)
-
-pub spanned_none : (table : List ℕ) (row clock : ℕ) (rule : Rule) (S : List Span) → Spanned table row [] clock rule S → S ≡ []
-spanned_none table row clock (plain says) S spanned = spanned
-spanned_none table row clock (stretch columns) S spanned =
-    runs-only (KeeperHolds table row columns) (FeederHolds table row columns) _ _ [] clock S [] spanned
-    (runs_none (KeeperHolds table row columns) (FeederHolds table row columns) _ _ clock)

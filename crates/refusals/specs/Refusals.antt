@@ -1,7 +1,7 @@
 -- What each refusal gives (document 01, "Refusal numbers"): its number, and its row where it has one, each by its name. The one list; and which of two
 -- decides.
 use Rattle.std.proofs.Math.Option.{Option, none, some}
-use Rattle.std.specs.Prelude.{ℕ}
+use Rattle.std.specs.Prelude.{ℕ, List, ◌++◌, codes, decimal}
 use Rattle.refusals.specs.declared.refusal.Refusal.{Refusal}
 use Rattle.refusals.specs.declared.refusal.Refusal.TheVariants.{Length, Row, Limits, Store, Earlier, Late, Unsound, BadLine, BadSum, RowList, DeadRow}
 
@@ -42,6 +42,10 @@ row_in fault = or_zero fault.row
 
 abbrev pub row_of : Refusal → ℕ
 row_of r = row_in (refused r)
+
+-- What is printed of a refusal.
+abbrev pub text_of : Refusal → List ℕ
+text_of r = codes "refused " ++ decimal (number_of r) ++ codes ", row " ++ decimal (row_of r)
 
 -- "Tried in the order of the rows here": the first of two decides.
 infixr 30 ◌or_else◌

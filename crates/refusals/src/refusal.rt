@@ -1,10 +1,13 @@
-// The one list of refusals (document 01, "Refusal numbers", as document 02 amends it). Every enum that refuses holds one of these; what leaves as plain
-// numbers is made by `number` and `row`, and only this file takes a refusal apart.
+// The one list of refusals (document 01, "Refusal numbers", as document 02 amends it): the error of every call that refuses. What leaves as plain numbers is
+// made by `number` and `row`, and only this file takes a refusal apart.
 
-ghost use Rattle.std.specs.Prelude.{◌≡◌};
-ghost use Rattle.refusals.specs.Refusals.{number_of, row_of};
+ghost use Rattle.std.specs.Prelude.{◌≡◌, Some};
+ghost use Rattle.refusals.specs.Refusals.{number_of, row_of, text_of};
 
-#[derive(Clone, Copy)]
+use std::error::Error;
+use std::fmt;
+
+#[derive(Clone, Copy, Debug, PartialEq, Eq)]
 pub enum Refusal {
     // 1: the table's length is not a multiple of 5, or its rows are not 1 to 256.
     Length,
@@ -30,40 +33,46 @@ pub enum Refusal {
     DeadRow(u32),
 }
 
-// The number of a refusal.
-pub fn number(r: Refusal) -> u32
-    ensures { result ≡ number_of r }
-{
-    match r {
-        Refusal::Length => 1,
-        Refusal::Row(_) => 2,
-        Refusal::Limits(_) => 3,
-        Refusal::Store => 4,
-        Refusal::Earlier => 5,
-        Refusal::Late => 6,
-        Refusal::Unsound => 7,
-        Refusal::BadLine => 8,
-        Refusal::BadSum => 9,
-        Refusal::RowList => 10,
-        Refusal::DeadRow(_) => 11,
+impl Refusal {
+    // Its number.
+    pub fn number(self) -> u32
+        ensures { result ≡ number_of self }
+    {
+        match self {
+            Refusal::Length => 1,
+            Refusal::Row(_) => 2,
+            Refusal::Limits(_) => 3,
+            Refusal::Store => 4,
+            Refusal::Earlier => 5,
+            Refusal::Late => 6,
+            Refusal::Unsound => 7,
+            Refusal::BadLine => 8,
+            Refusal::BadSum => 9,
+            Refusal::RowList => 10,
+            Refusal::DeadRow(_) => 11,
+        }
+    }
+
+    // Its row, 0 where it has none.
+    pub fn row(self) -> u32
+        ensures { result ≡ row_of self }
+    {
+        match self {
+            Refusal::Row(row) | Refusal::Limits(row) | Refusal::DeadRow(row) => row,
+            Refusal::Length | Refusal::Store | Refusal::Earlier | Refusal::Late => 0,
+            Refusal::Unsound | Refusal::BadLine | Refusal::BadSum | Refusal::RowList => 0,
+        }
     }
 }
 
-// The row of a refusal, 0 where it has none.
-pub fn row(r: Refusal) -> u32
-    ensures { result ≡ row_of r }
-{
-    match r {
-        Refusal::Length => 0,
-        Refusal::Row(row) => row,
-        Refusal::Limits(row) => row,
-        Refusal::Store => 0,
-        Refusal::Earlier => 0,
-        Refusal::Late => 0,
-        Refusal::Unsound => 0,
-        Refusal::BadLine => 0,
-        Refusal::BadSum => 0,
-        Refusal::RowList => 0,
-        Refusal::DeadRow(row) => row,
+impl fmt::Display for Refusal {
+    ghost output = { λ r. Some (text_of r) };
+
+    fn fmt<W: fmt::Write>(&self, f: &mut fmt::Formatter<W>) -> fmt::Result {
+        let number = self.number();
+        let row = self.row();
+        write!(f, "refused {number}, row {row}")
     }
 }
+
+impl Error for Refusal {}

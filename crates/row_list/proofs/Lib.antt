@@ -1,4 +1,3 @@
--- What follows for lists of row numbers, truths as bytes and verdicts.
-pub mod RowListLaws
+-- What follows for truths as bytes and for verdicts.
 pub mod TruthsLaws
 pub mod VerdictLaws

@@ -7,3 +7,4 @@ pub mod TableLaws
 pub mod PassedLaws
 pub mod RowFormulaLaws
 pub mod Outcomes
+pub mod FieldsLaws

@@ -21,7 +21,6 @@ use Rattle.rules.specs.Table.{length_passes, row_passes, limits_pass, fault_of, 
 use Rattle.rules.specs.RowFormula.{made_of, formula_of}
 use Rattle.rules.specs.declared.numbers.Numbers.{Numbers}
 use Rattle.refusals.specs.declared.refusal.Refusal.TheVariants.{Length, Row, Limits}
-use Rattle.meaning.proofs.Truths.{zero_not_one}
 use Rattle.rules.proofs.RowFitsLaws.{RowFits, row_fits_told, Names, names_lower}
 use Rattle.rules.proofs.TableLaws.{or_none, whole_rows_told}
 use Rattle.rules.proofs.RowFormulaLaws.{formula-made}
@@ -75,14 +74,14 @@ limit-fits a b range = ⊎_elim (λ e. omega arith) (λ both. omega arith) range
 -- No fault is both tests passed.
 no_fault : (p q : Bool) (f g : Refused) → cond p (cond q none (some f)) (some g) ≡ none → (p ≡ true) × (q ≡ true)
 no_fault true true f g h = (refl, refl)
-no_fault true false f g h = absurd (zero_not_one cc)
-no_fault false q f g h = absurd (zero_not_one cc)
+no_fault true false f g h = cc
+no_fault false q f g h = cc
 
 row_tests : (r : ℕ) (row : Numbers) → fault_of r row ≡ none → (row_passes r row ≡ true) × (limits_pass row.a row.b ≡ true)
 unfolding fault_of
 row_tests r row h = no_fault (row_passes r row) (limits_pass row.a row.b) (refused (Limits r)) (refused (Row r)) h
 
-good-row : (r : ℕ) (row : Numbers) → fault_of r row ≡ none → Good r row
+pub good-row : (r : ℕ) (row : Numbers) → fault_of r row ≡ none → Good r row
 good-row r row h =
     let tests = row_tests r row h in
     let fits : RowFits r row = tells_passed (row_fits_told r row) tests.0 in
@@ -131,8 +130,8 @@ answer_parts :
     → cond p (check_reply_by o n m) (refused_by refusal) ≡ passed rows need
     → (p ≡ true) × (o ≡ none) × (rows ≡ n) × (need ≡ m)
 answer_parts true none refusal n m rows need h = (refl, refl, (cc), (cc))
-answer_parts true (some fault) refusal n m rows need h = absurd (zero_not_one cc)
-answer_parts false o refusal n m rows need h = absurd (zero_not_one cc)
+answer_parts true (some fault) refusal n m rows need h = cc
+answer_parts false o refusal n m rows need h = cc
 
 pub passed_gives : (table : List ℕ) (rows need : ℕ) → check_of table ≡ passed rows need → Passed table rows need
 unfolding check_of

@@ -27,8 +27,8 @@ said-most (stretch columns) row = omega arith
 pub spans-most : (row : Numbers) → spans_of row ≤ figure row.a (end_of row.b)
 spans-most row = said-most (rule_of row) row
 
-pub spans-below : (row : Numbers) → spans_of row ≤ row.b / 2 + 1
-spans-below row = omega (arith, spans-most row, figure-most row.a row.b)
+pub spans_below : (row : Numbers) → spans_of row ≤ row.b / 2 + 1
+spans_below row = omega (arith, spans-most row, figure-most row.a row.b)
 
 -- A stretch ends where a later one begins, or before it.
 pub stretch-before : (table : List ℕ) (r n : ℕ) → r < n → offset table r + width (numbers_at table r) ≤ offset table n

@@ -1,5 +1,5 @@
 -- Laws of the table check: what each test decides, the first fault, and where the check stands after some rows.
-use mathlib.Core.Bool.{Bool, true, false}
+use mathlib.Core.Bool.{true, false}
 use mathlib.Core.List.{List}
 use mathlib.Core.Logic.{⊎_elim}
 use mathlib.Core.Option.{Option, none, some}
@@ -10,54 +10,13 @@ use native.Mathlib.Numerals.{add-one}
 use native.Mathlib.Omega.{arith}
 use lib.ListN.{length}
 use Rattle.meaning.proofs.Tells.{Tells, tells_leb, tells_eqb, tells_and, tells_same}
-use Rattle.kinds.specs.Kinds.{known, kind_at, kind_line, use_of, fits}
-use Rattle.kinds.specs.declared.table.Use.{Use}
-use Rattle.kinds.specs.declared.table.KindLine.{KindLine}
 use Rattle.rules.specs.Limits.{row_numbers, row_limit}
-use Rattle.rules.specs.Rows.{rows_of, field_at, numbers_at}
+use Rattle.rules.specs.Rows.{rows_of, numbers_at}
 use Rattle.rules.specs.Stretches.{width, offset}
 use Rattle.refusals.specs.Refusals.{Refused, refused, ◌or_else◌}
 use Rattle.rules.specs.Table.{length_passes, row_passes, limits_pass, fault_of, first_fault, passed, refused_by, check_of}
 use Rattle.rules.specs.declared.numbers.Numbers.{Numbers}
 use Rattle.refusals.specs.declared.refusal.Refusal.TheVariants.{Length, Row, Limits}
-use Rattle.meaning.proofs.Truths.{zero_not_one, and_false}
-
--- The number at a field of a row fits its use.
-abbrev pub field_fits : List ℕ → ℕ → ℕ → Bool
-field_fits table r field = fits r (use_of (kind_line (kind_at (numbers_at table r).kind)) field) (field_at table r field)
-
--- The same, from what was read and looked up on the way to it.
-pub field_told :
-    (table : List ℕ) (r field : ℕ) {found : Numbers} {line : KindLine} {usage : Use} {number : ℕ}
-    → found ≡ numbers_at table r
-    → line ≡ kind_line (kind_at found.kind)
-    → usage ≡ use_of line field
-    → number ≡ field_at table r field
-    → fits r usage number ≡ field_fits table r field
-field_told table r field row_read Line-read use-read number_read = rw (use-read, Line-read, row_read, number_read)
-
-module _ (table : List ℕ) (r : ℕ) where
-  -- 2 by fields: a row passes where its kind is known and each field fits, and not otherwise.
-  pub row-passes :
-      known (numbers_at table r).kind ≡ true
-      → ((field : ℕ) → 1 ≤ field → field < row_numbers → field_fits table r field ≡ true)
-      → row_passes r (numbers_at table r) ≡ true
-  unfolding row_passes numbers_at use_of
-  row-passes k all =
-      rw (k, all 1 (omega arith) (omega arith), all 2 (omega arith) (omega arith), all 3 (omega arith) (omega arith), all 4 (omega arith) (omega arith))
-
-  pub row_unknown : known (numbers_at table r).kind ≡ false → row_passes r (numbers_at table r) ≡ false
-  unfolding row_passes numbers_at
-  row_unknown k = rw k
-
-  pub row_unfit : (field : ℕ) → 1 ≤ field → field < row_numbers → field_fits table r field ≡ false → row_passes r (numbers_at table r) ≡ false
-  unfolding row_passes numbers_at use_of
-  row_unfit zero low high h = absurd (omega arith)
-  row_unfit (suc zero) low high h = simp (h, and_false)
-  row_unfit (suc (suc zero)) low high h = simp (h, and_false)
-  row_unfit (suc (suc (suc zero))) low high h = simp (h, and_false)
-  row_unfit (suc (suc (suc (suc zero)))) low high h = simp (h, and_false)
-  row_unfit (suc (suc (suc (suc (suc field))))) low high h = absurd (omega arith)
 
 -- The fault of a row, by the two tests.
 pub fault_row : (r : ℕ) (row : Numbers) → row_passes r row ≡ false → fault_of r row ≡ some (refused (Row r))
@@ -75,7 +34,7 @@ fault_none r row h l = rw (h, l)
 -- Where neither of two refuses.
 pub or_none : (first next : Option Refused) → (first or_else next) ≡ none → (first ≡ none) × (next ≡ none)
 or_none none next h = (refl, h)
-or_none (some fault) next h = absurd (zero_not_one cc)
+or_none (some fault) next h = cc
 
 -- A fault that was found is the first fault of every longer part of the table.
 first-kept : (table : List ℕ) (r n : ℕ) (fault : Refused) → first_fault table r ≡ some fault → r ≤ n → first_fault table n ≡ some fault

@@ -8,6 +8,7 @@ use Rattle.kinds.specs.declared.stretch.Feed.TheVariants.{FromX, FromY}
 use Rattle.kinds.specs.declared.stretch.Stretch.{Stretch}
 use Rattle.rules.specs.Limits.{row_numbers}
 use Rattle.rules.specs.declared.numbers.Numbers.{Numbers}
+use Rattle.times.specs.declared.interval.Interval.{Interval}
 
 abbrev pub rows_of : List ℕ → ℕ
 rows_of table = length table / row_numbers
@@ -25,6 +26,10 @@ numbers_at table row =
       a = field_at table row 3;
       b = field_at table row 4;
     }
+
+-- Its limits, a to b.
+abbrev pub limits_of : Numbers → Interval
+limits_of row = record { a = row.a; b = row.b }
 
 -- What a row says, decoded once.
 abbrev pub rule_of : Numbers → Rule

@@ -1,5 +1,5 @@
 -- The check of a rule table (document 01, "Refusal numbers", 1 to 3).
-use Rattle.std.specs.Prelude.{Bool, cond, ◌&&◌, ◌||◌, List, ◌≡◌, ℕ, zero, suc, ◌/◌, ◌%◌, eqb, leb, length}
+use Rattle.std.specs.Prelude.{Bool, cond, ◌&&◌, ◌||◌, List, ◌≡◌, ℕ, zero, suc, ◌/◌, ◌%◌, eqb, leb, length, Result, Ok, Err}
 use Rattle.std.proofs.Math.Option.{Option, none, some}
 use Rattle.meaning.specs.Interval.{no_end_number}
 use Rattle.kinds.specs.Kinds.{Kind, known, kind_at, fits}
@@ -8,8 +8,9 @@ use Rattle.rules.specs.Rows.{rows_of, numbers_at}
 use Rattle.rules.specs.Stretches.{need_of}
 use Rattle.refusals.specs.Refusals.{Refused, refused, ◌or_else◌}
 use Rattle.rules.specs.declared.numbers.Numbers.{Numbers}
+use Rattle.rules.specs.declared.table.Passed.{Passed}
+use Rattle.refusals.specs.declared.refusal.Refusal.{Refusal}
 use Rattle.refusals.specs.declared.refusal.Refusal.TheVariants.{Length, Row, Limits}
-use Rattle.rules.specs.declared.table.Checked as Answer
 
 -- 1: "table length not a multiple of 5, or rows not 1 to" the limit.
 unfoldable pub length_passes : ℕ → Bool
@@ -54,10 +55,10 @@ check_of table =
     (refused_by (refused Length))
 
 -- What an answer of the check says.
-abbrev pub check_reply : Answer.Checked → CheckReply
-check_reply (Answer.TheVariants.Passed rows need) = passed rows need
-check_reply (Answer.TheVariants.Refused refusal) = refused_by (refused refusal)
+abbrev pub check_reply : Result Passed Refusal → CheckReply
+check_reply (Ok counted) = passed counted.rows counted.need
+check_reply (Err refusal) = refused_by (refused refusal)
 
 -- An answer of the check that is right for a table: it says what the check of the table gives.
-abbrev pub Checks : List ℕ → Answer.Checked → Type 0
+abbrev pub Checks : List ℕ → Result Passed Refusal → Type 0
 Checks table answer = check_reply answer ≡ check_of table

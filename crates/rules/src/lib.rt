@@ -4,6 +4,6 @@
 
 pub mod limits;
 pub mod numbers;
-pub mod plain;
+pub mod says;
 pub mod stretch;
 pub mod table;

@@ -4,82 +4,66 @@ ghost use Rattle.std.specs.Prelude.{◌≡◌};
 ghost use Rattle.rules.specs.Table.{Checks, length_passes, limits_pass};
 
 use crate::limits::{LONGEST, ROW_LIMIT, ROW_NUMBERS};
-use crate::{numbers, stretch};
-use kinds::table::{is_known, line_of, may_be, use_of};
+use crate::numbers::numbers_at;
+use crate::stretch::words;
+use kinds::kind::Kind;
 use refusals::refusal::Refusal;
-use times::interval::has_no_end;
+use times::interval::Interval;
 
-#[derive(Drop)]
-pub enum Checked {
-    // The row count and the need, in words.
-    Passed { rows: u32, need: u64 },
-    // 1, 2 or 3.
-    Refused(Refusal),
+// What the check of a table gives: its row count, and the need in words.
+#[derive(Clone, Copy)]
+pub struct Passed {
+    pub rows: u32,
+    pub need: u64,
 }
 
 // The row count and the need of a table; or refusal 1 for its length, or that of its first bad row, after which nothing is looked at.
-pub fn check(table: &[u32]) -> Checked
+pub fn check(table: &[u32]) -> Result<Passed, Refusal>
     ensures { Checks table.now result }
 {
     if !length_passes(table.len()) {
-        return Checked::Refused(Refusal::Length);
+        return Err(Refusal::Length);
     }
-    let rows = table.len() / ROW_NUMBERS;
-    let mut need: u64 = 0;
-    let mut row: usize = 0;
-    'rows: loop {
-        if rows <= row {
-            break 'rows Checked::Passed {
-                rows: rows as u32,
-                need,
+    let rows = (table.len() / ROW_NUMBERS) as u32;
+    let mut need = 0;
+    'rows: {
+        for row in 0..rows {
+            let numbers = numbers_at(table, row as usize);
+            let Ok(kind) = Kind::try_from(numbers.kind) else {
+                break 'rows Err(Refusal::Row(row));
             };
-        }
-        let found = numbers::numbers_at(table, row);
-        if !is_known(found.kind) {
-            break 'rows Checked::Refused(Refusal::Row(row as u32));
-        }
-        let line = line_of(found.kind);
-        let mut field: usize = 1;
-        'fields: while field < ROW_NUMBERS {
-            let number = numbers::number_at(table, row * ROW_NUMBERS + field);
-            if !may_be(row as u32, use_of(line, field), number) {
-                break 'rows Checked::Refused(Refusal::Row(row as u32));
+            let line = kind.line();
+            for (usage, number) in [
+                (line.x, numbers.x),
+                (line.y, numbers.y),
+                (line.a, numbers.a),
+                (line.b, numbers.b),
+            ] {
+                if !usage.admits(row, number) {
+                    break 'rows Err(Refusal::Row(row));
+                }
             }
-            field += 1;
+            if !limits_pass(numbers.limits()) {
+                break 'rows Err(Refusal::Limits(row));
+            }
+            need += words(numbers);
         }
-        if !limits_pass(found.a, found.b) {
-            break 'rows Checked::Refused(Refusal::Limits(row as u32));
-        }
-        need += stretch::words(found);
-        row += 1;
+        Ok(Passed { rows, need })
     }
 }
 
 // Whether so many numbers are whole rows, at least one and no more than the limit.
+#[tactic(auto, unfolding(crate::specs::Table::length_passes))]
 fn length_passes(length: usize) -> bool
     ensures { result ≡ length_passes length }
 {
-    if length % ROW_NUMBERS != 0 {
-        return false;
-    }
-    if length / ROW_NUMBERS < 1 {
-        return false;
-    }
-    length / ROW_NUMBERS <= ROW_LIMIT
+    length % ROW_NUMBERS == 0 && 1 <= length / ROW_NUMBERS && length / ROW_NUMBERS <= ROW_LIMIT
 }
 
 // Whether a and b are in range: a 0 to 86,400,000, b from a to 86,400,000 or no end.
-fn limits_pass(a: u32, b: u32) -> bool
-    ensures { result ≡ limits_pass a b }
+#[tactic(auto, unfolding(crate::specs::Table::limits_pass))]
+fn limits_pass(limits: Interval) -> bool
+    ensures { result ≡ limits_pass limits.a limits.b }
 {
-    if LONGEST < a {
-        return false;
-    }
-    if has_no_end(b) {
-        return true;
-    }
-    if b < a {
-        return false;
-    }
-    b <= LONGEST
+    limits.a <= LONGEST && (limits.has_no_end() || (limits.a <= limits.b && limits.b <= LONGEST))
 }

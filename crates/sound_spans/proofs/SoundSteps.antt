@@ -1,25 +1,27 @@
--- Laws of the walk that decides whether a stretch is sound, from one place to the next.
+-- Laws of the walk that decides whether a stretch is sound, from one span to the next, and of the two parts in which a stretch is read.
 use mathlib.Core.Bool.{Bool, true, false, ◌&&◌, and-true, and_assoc}
-use mathlib.Core.List.{List, [], ◌∷◌, ◌++◌, append-nil}
+use mathlib.Core.List.{List, [], ◌∷◌, ◌++◌, append-nil, append_assoc}
+use mathlib.Core.Logic.{⊎_elim}
 use mathlib.Core.Path.{◌≡◌, refl, sym, ap, ◌∙◌}
-use Prim.Native.Nat.{ℕ, zero, suc, ◌+◌, ◌*◌, ◌-◌, ◌≤◌, ◌<◌}
-use native.Mathlib.Nat.{add-zero, sub-zero}
-use native.Mathlib.Numerals.{add-one}
+use Prim.Native.Nat.{ℕ, zero, suc, ◌+◌, ◌*◌, ◌-◌, ◌/◌, ◌≤◌, ◌<◌, min}
 use native.Mathlib.Omega.{arith}
 use borrow.Author.Tests.{lt-ltb, le-ltb, le-leb, lt-leb, eq-eqb, ne_eqb, eqb-true, eqb-false}
 use lib.Dec.{leb, eqb}
-use lib.ListN.{length, get_or, take, drop, length-drop}
-use lib.Seq.{drop-append-add, drop-append-le, drop-cons, drop-drop, take_all, take-nil}
+use lib.ListN.{length, get_or, take, drop, length-drop, get_or-append, take-append-drop}
+use lib.Seq.{drop-append-add, drop-append-le, length-take-le, take_all}
 use Rattle.meaning.specs.Interval.{End, up_to, no_end}
 use Rattle.meaning.specs.Spans.{Span, ◌to◌}
+use Rattle.meaning.proofs.SpansLaws.{le_or_lt}
 use Rattle.meaning.proofs.Tells.{Tells, tells_leb, tells_ltb, tells_eqb, tells_and, tells_same}
 use Rattle.meaning.proofs.Truths.{and_false}
 use Rattle.spans.specs.declared.stretch.Held.{Held}
-use Rattle.spans.specs.Layout.{mark, end_at, places_of, place_at, spans_from, round_from, spans_held, placed?, zeros?}
+use Rattle.spans.specs.Layout.{mark, end_at, places_of, spans_from, round_from, spans_held, placed?, zeros?}
 use Rattle.spans.specs.Stretch.{Inside}
-use Rattle.sound_spans.specs.StretchSound.{sound_span?, sound_from?, sound_endless?, sound_spans?, sound_stretch?, HeldInside}
-use Rattle.spans.proofs.RoundLaws.{places_whole, place_cases, round_span}
-use Rattle.spans.proofs.LayoutLaws.{end_cases, plain_end, spans-next, spans-none}
+use Rattle.sound_spans.specs.declared.stretch.Ring.{Ring}
+use Rattle.sound_spans.specs.StretchSound.{sound_span?, sound_from?, sound_endless?, sound_spans?, sound_stretch?, spans_straight}
+use Rattle.sound_spans.specs.Ring.{words_read, spans_read}
+use Rattle.spans.proofs.RoundLaws.{places_whole}
+use Rattle.spans.proofs.LayoutLaws.{end_cases, plain_end, spans_shift}
 
 third_fails : (b d e : Bool) → (b && d && false && e) ≡ false
 third_fails true true e = refl
@@ -42,22 +44,6 @@ one_more from now latest long first last S m =
     last
     (λ marked. rw (late_span from now latest long first last (omega arith)) refl)
     (λ plain. refl)
-
-pub sound-next : (words : List ℕ) (place count from now latest long : ℕ) → place < count → latest < mark
-    → sound_from? from now latest long (spans_from words place (count - place))
-    ≡ (sound_span? from now latest long (get_or words (2 * place) 0) (get_or words (2 * place + 1) 0)
-    && sound_from? (get_or words (2 * place + 1) 0 + 2) now latest long (spans_from words (place + 1) (count - (place + 1))))
-sound-next words place count from now latest long h m =
-    let first : ℕ = get_or words (2 * place) 0 in
-    let last : ℕ = get_or words (2 * place + 1) 0 in
-    let S : List Span = spans_from words (place + 1) (count - (place + 1)) in
-    rw (spans-next words place count h)
-    (one_more from now latest long first last S m)
-
-pub sound_none : (words : List ℕ) (place count from now latest long : ℕ) → count ≤ place
-    → sound_from? from now latest long (spans_from words place (count - place)) ≡ true
-unfolding sound_from?
-sound_none words place count from now latest long h = rw (spans-none words place count h) refl
 
 -- Two walks: the second goes on from the last word of the first.
 sound_parts : (words : List ℕ) (place count from now latest long : ℕ) (S : List Span) → 0 < count → latest < mark
@@ -88,109 +74,86 @@ sound_parts words place (suc (suc n)) from now latest long S some m =
     (sound_from? (last + 2) now latest long later)
     (sound_from? (get_or words (2 * (suc place + suc n) - 1) 0 + 2) now latest long S)))
 
--- The spans that are read round, by their places: straight on up to the last place, then from place 0 on.
-module _ (words : List ℕ) (p first : ℕ) (whole : 2 * p ≡ length words) (inside : first ≤ p) where
-  straight : (i n : ℕ) → i + n ≤ p - first → spans_from (round_from first words) i n ≡ spans_from words (first + i) n
-  unfolding spans_from
-  straight i zero within = refl
-  straight i (suc n) within =
-      let next : first + suc i ≡ suc (first + i) = omega arith in
-      let here : place_at p first i ≡ first + i = place_cases (λ k. k ≡ first + i) p first i (λ before. refl) (λ past. omega arith) in
-      rw (round_span words p first i whole inside (omega arith), here, straight (suc i) n (omega arith), next) refl
+-- What a span may begin from is capped at the mark, where none with an end begins.
+span_capped : (from now latest long first last : ℕ) → latest < mark
+    → sound_span? (min from mark) now latest long first last ≡ sound_span? from now latest long first last
+unfolding sound_span?
+span_capped from now latest long first last m =
+    ⊎_elim
+    (λ (few : from ≤ mark). let same : min from mark ≡ from = omega arith in rw same refl)
+    (λ (more : mark < from).
+    let cap : min from mark ≡ mark = omega arith in
+    rw cap
+    (⊎_elim
+    (λ (high : mark ≤ first).
+    ⊎_elim
+    (λ (late : first ≤ last). late_span mark now latest long first last (omega arith) ∙ sym (late_span from now latest long first last (omega arith)))
+    (λ (back : last < first). rw (lt-leb first last back, and_false (leb mark first), and_false (leb from first)) refl)
+    (le_or_lt first last))
+    (λ (low : first < mark). rw (lt-leb mark first low, lt-leb from first (omega arith)) refl)
+    (le_or_lt mark first)))
+    (le_or_lt from mark)
 
-  wrapped : (i n : ℕ) → p - first ≤ i → i + n ≤ p → spans_from (round_from first words) i n ≡ spans_from words (i - (p - first)) n
-  unfolding spans_from
-  wrapped i zero past within = refl
-  wrapped i (suc n) past within =
-      let next : suc i - (p - first) ≡ suc (i - (p - first)) = omega arith in
-      let here : place_at p first i ≡ i - (p - first) =
-      place_cases (λ k. k ≡ i - (p - first)) p first i (λ before. absurd (omega arith)) (λ over. refl)
-      in
-      rw (round_span words p first i whole inside (omega arith), here, wrapped (suc i) n (omega arith) (omega arith), next) refl
+from_capped : (from now latest long : ℕ) (S : List Span) → latest < mark
+    → sound_from? (min from mark) now latest long S ≡ sound_from? from now latest long S
+unfolding sound_from?
+from_capped from now latest long [] m = refl
+from_capped from now latest long ((first to up_to last) ∷ S) m = rw (span_capped from now latest long first last m) refl
+from_capped from now latest long ((first to no_end) ∷ S) m = refl
 
-spans_split : (words : List ℕ) (i a b : ℕ) → spans_from words i (a + b) ≡ spans_from words i a ++ spans_from words (i + a) b
+-- The spans of words in two parts, of which the first ends with a span.
+spans_parts : (xs ys : List ℕ) (n m : ℕ) → length xs ≡ 2 * n → spans_from (xs ++ ys) 0 (n + m) ≡ spans_from xs 0 n ++ spans_from ys 0 m
 unfolding spans_from
-spans_split words i zero b =
-    let e : 0 + b ≡ b = omega arith in
-    let f : i + 0 ≡ i = omega arith in
-    rw (e, f) refl
-spans_split words i (suc a) b =
-    let e : suc a + b ≡ suc (a + b) = omega arith in
-    let f : i + suc a ≡ suc i + a = omega arith in
-    rw (e, f, spans_split words (suc i) a b) refl
+spans_parts [] ys zero m e =
+    let none : 0 + m ≡ m = omega arith in
+    rw none refl
+spans_parts [] ys (suc n) m e = absurd (omega arith)
+spans_parts (a ∷ []) ys n m e = absurd (omega arith)
+spans_parts (a ∷ b ∷ xs) ys zero m e = absurd (omega arith)
+spans_parts (a ∷ b ∷ xs) ys (suc n) m e =
+    let more : suc n + m ≡ suc (n + m) = omega arith in
+    rw (more, spans_shift a b (xs ++ ys) 0 (n + m), spans_shift a b xs 0 n, spans_parts xs ys n m (omega arith)) refl
 
-module _ (words : List ℕ) (held : Held) (inside : HeldInside words held) where
-  abbrev p : ℕ
-  p = places_of (length words)
+spans_first : (xs ys : List ℕ) (n : ℕ) → length xs ≡ 2 * n → spans_from (xs ++ ys) 0 n ≡ spans_straight xs
+unfolding spans_from
+spans_first xs ys n e =
+    let all : n + 0 ≡ n = omega arith in
+    let half : length xs / 2 ≡ n = omega arith in
+    rw half (rw (all, append-nil) at (spans_parts xs ys n 0 e))
 
-  whole : 2 * p ≡ length words
-  whole = places_whole (length words) (omega (arith, inside.1))
+-- A turn of the walk: the answer of the words that are left is that of their first span and of those after it; past the last there is none.
+rising_next : (from now latest long : ℕ) (span rest : List ℕ) → length span ≡ 2 → latest < mark
+    → sound_from? from now latest long (spans_straight (span ++ rest))
+    ≡ (sound_span? from now latest long (get_or span 0 0) (get_or span 1 0)
+    && sound_from? (min (get_or span 1 0 + 2) mark) now latest long (spans_straight rest))
+unfolding spans_from
+rising_next from now latest long [] rest two m = absurd (omega arith)
+rising_next from now latest long (a ∷ []) rest two m = absurd (omega arith)
+rising_next from now latest long (a ∷ b ∷ c ∷ span) rest two m = absurd (omega arith)
+rising_next from now latest long (a ∷ b ∷ []) rest two m =
+    let more : suc (suc (length rest)) / 2 ≡ suc (length rest / 2) = omega arith in
+    rw (
+      more,
+      spans_shift a b rest 0 (length rest / 2),
+      one_more from now latest long a b (spans_straight rest) m,
+      from_capped (b + 2) now latest long (spans_straight rest) m,
+    )
+    refl
 
-  held_straight : held.count ≤ p - held.first → spans_held words held ≡ spans_from words held.first held.count
-  held_straight within =
-      let e : held.first + 0 ≡ held.first = omega arith in
-      rw e at (straight words p held.first whole (omega (arith, inside.1)) 0 held.count (omega arith))
+pub rising_turn : (from now latest long : ℕ) {words : List ℕ} (span rest : List ℕ) → words ≡ span ++ rest → length span ≡ 2 → latest < mark
+    → sound_from? from now latest long (spans_straight words)
+    ≡ (sound_span? from now latest long (get_or span 0 0) (get_or span 1 0)
+    && sound_from? (min (get_or span 1 0 + 2) mark) now latest long (spans_straight rest))
+rising_turn from now latest long span rest parts two m = rw parts (rising_next from now latest long span rest two m)
 
-  held_round : p - held.first < held.count
-      → spans_held words held
-      ≡ spans_from words held.first (p - held.first) ++ spans_from words 0 (held.count - (p - held.first))
-  held_round past =
-      let rest : ℕ = p - held.first in
-      let sum : held.count ≡ rest + (held.count - rest) = omega arith in
-      let e : held.first + 0 ≡ held.first = omega arith in
-      let z : 0 + rest ≡ rest = omega arith in
-      let none : rest - rest ≡ 0 = omega arith in
-      let low : held.first ≤ p = omega (arith, inside.1) in
-      ap (spans_from (round_from held.first words) 0) sum
-      ∙ spans_split (round_from held.first words) 0 rest (held.count - rest)
-      ∙ rw (
-        z,
-        straight words p held.first whole low 0 rest (omega arith),
-        e,
-        wrapped words p held.first whole low rest (held.count - rest) (omega arith) (omega (arith, inside.2)),
-        none,
-      )
-      refl
-
-  -- Spans with an end, by the walks over their places.
-  module _ (room now latest long : ℕ) (all : room ≡ p) (m : latest < mark) where
-    pub straight-sound : held.count ≤ room - held.first
-        → sound_from? now now latest long (spans_held words held)
-        ≡ sound_from? (now + 0) now latest long (spans_from words held.first (held.first + held.count - held.first))
-    straight-sound within =
-        let size : held.first + held.count - held.first ≡ held.count = omega arith in
-        rw (size, add-zero, held_straight (omega (arith, all))) refl
-
-    pub round-sound : room - held.first < held.count
-        → sound_from? now now latest long (spans_held words held)
-        ≡ (sound_from? (now + 0) now latest long (spans_from words held.first (room - held.first))
-        && sound_from? (get_or words (2 * room - 1) 0 + 2) now latest long (spans_from words 0 (held.count - (room - held.first) - 0)))
-    round-sound past =
-        let end : held.first + (room - held.first) ≡ room = omega (arith, all, inside.1) in
-        let past-places : p - held.first < held.count = omega (arith, all) in
-        rw (held_round past-places, ← all, add-zero, sub-zero)
-        (rw end at
-        (sound_parts words held.first (room - held.first) now now latest long (spans_from words 0 (held.count - (room - held.first)))
-        (omega (arith, all, inside.1)) m))
-
-  -- Of a stretch without end: one span is told by its two words.
-  pub endless_one : (now latest_first : ℕ) → held.count ≡ 1
-      → sound_endless? now latest_first (spans_held words held)
-      ≡ (eqb (get_or words (2 * held.first + 1) 0) mark
-      && (leb now (get_or words (2 * held.first) 0) && leb (get_or words (2 * held.first) 0) latest_first))
-  unfolding spans_from sound_endless?
-  endless_one now latest_first one =
-      let first : ℕ = get_or words (2 * held.first) 0 in
-      let last : ℕ = get_or words (2 * held.first + 1) 0 in
-      rw (held_straight (omega (arith, inside.1)), one)
-      (end_cases
-      (λ e. sound_endless? now latest_first ((first to e) ∷ []) ≡ (eqb last mark && (leb now first && leb first latest_first)))
-      last
-      (λ marked. rw (eq-eqb last mark marked) refl)
-      (λ plain. rw (ne_eqb last mark plain) refl))
+pub rising_none : (from now latest long : ℕ) (rest : List ℕ) → length rest < 2 → sound_from? from now latest long (spans_straight rest) ≡ true
+unfolding sound_from? spans_from
+rising_none from now latest long rest few =
+    let none : length rest / 2 ≡ 0 = omega arith in
+    rw none refl
 
 -- Two spans are too many.
-pub endless_many : (words : List ℕ) (count now latest_first : ℕ) → 1 < count → sound_endless? now latest_first (spans_from words 0 count) ≡ false
+endless_many : (words : List ℕ) (count now latest_first : ℕ) → 1 < count → sound_endless? now latest_first (spans_from words 0 count) ≡ false
 unfolding spans_from sound_endless?
 endless_many words zero now latest_first h = absurd (omega arith)
 endless_many words (suc zero) now latest_first h = absurd (omega arith)
@@ -201,18 +164,117 @@ endless_many words (suc (suc count)) now latest_first h =
     (λ marked. refl)
     (λ plain. refl)
 
+-- One span, by its two words.
+endless_words : (words rest : List ℕ) (count now latest_first : ℕ) → 1 < length words → 0 < count
+    → sound_endless? now latest_first (spans_from (words ++ rest) 0 count)
+    ≡ (eqb count 1 && eqb (get_or words 1 0) mark && leb now (get_or words 0 0) && leb (get_or words 0 0) latest_first)
+unfolding spans_from sound_endless?
+endless_words words rest count now latest_first two some = go (eqb count 1) refl
+  where
+    first : get_or (words ++ rest) 0 0 ≡ get_or words 0 0
+    first = get_or-append words rest 0 0 (omega arith)
+
+    last : get_or (words ++ rest) 1 0 ≡ get_or words 1 0
+    last = get_or-append words rest 0 1 two
+
+    go : (b : Bool) → eqb count 1 ≡ b → sound_endless? now latest_first (spans_from (words ++ rest) 0 count)
+        ≡ (eqb count 1 && eqb (get_or words 1 0) mark && leb now (get_or words 0 0) && leb (get_or words 0 0) latest_first)
+    go true e =
+        rw (eqb-true count 1 e, first, last)
+        (end_cases
+        (λ end. sound_endless? now latest_first ((get_or words 0 0 to end) ∷ [])
+        ≡ (true && eqb (get_or words 1 0) mark && leb now (get_or words 0 0) && leb (get_or words 0 0) latest_first))
+        (get_or words 1 0)
+        (λ marked. rw (eq-eqb (get_or words 1 0) mark marked) refl)
+        (λ plain. rw (ne_eqb (get_or words 1 0) mark plain) refl))
+    go false e = rw e (endless_many (words ++ rest) count now latest_first (omega (arith, eqb-false count 1 e)))
+
+-- Zeros in two parts.
+zeros_append : (l r : List ℕ) → zeros? (l ++ r) ≡ (zeros? l && zeros? r)
+unfolding zeros?
+zeros_append [] r = refl
+zeros_append (word ∷ l) r = go (eqb word 0) (zeros_append l r)
+  where
+    go : (b : Bool) → zeros? (l ++ r) ≡ (zeros? l && zeros? r) → (b && zeros? (l ++ r)) ≡ (b && zeros? l && zeros? r)
+    go true h = h
+    go false h = refl
+
+-- What is left of a list from a place on is taken whole.
+to_end : (l : List ℕ) (n : ℕ) → take (length l - n) (drop n l) ≡ drop n l
+to_end l n = take_all (length l - n) (drop n l) (rw length-drop (omega arith))
+
+-- A stretch as it is read, of which some spans are held.
+module _ (ring : Ring) where
+  abbrev later : List ℕ
+  later = ring.later.now
+
+  abbrev early : List ℕ
+  early = ring.early.now
+
+  -- The spans are in the first part, or that part has none but theirs and the others stand in the second.
+  pub ring_straight : 2 * ring.count ≤ length later → spans_read ring ≡ spans_straight (take (2 * ring.count) later)
+  ring_straight within =
+      let used : ℕ = 2 * ring.count in
+      ap (λ (l : List ℕ). spans_from (l ++ early) 0 ring.count) (sym (take-append-drop used later))
+      ∙ rw (append_assoc (take used later) (drop used later) early)
+      (spans_first (take used later) (drop used later ++ early) ring.count (length-take-le used later within))
+
+  pub ring_round : (now latest long : ℕ) → latest < mark → length later < 2 * ring.count
+      → sound_from? now now latest long (spans_read ring)
+      ≡ (sound_from? now now latest long (spans_straight later)
+      && sound_from? (min (get_or later (length later - 1) 0 + 2) mark) now latest long (spans_straight (take (2 * ring.count - length later) early)))
+  ring_round now latest long m past =
+      let n : ℕ = length later / 2 in
+      let others : ℕ = ring.count - n in
+      let sum : ring.count ≡ n + others = omega (arith, ring.whole) in
+      let size : length later ≡ 2 * n = omega (arith, ring.whole) in
+      let used : 2 * ring.count - length later ≡ 2 * others = omega (arith, ring.whole) in
+      let last : 2 * (0 + n) - 1 ≡ length later - 1 = omega (arith, ring.whole) in
+      let fits : 2 * others ≤ length early = omega (arith, ring.whole, ring.room) in
+      let second : spans_from early 0 others ≡ spans_straight (take (2 * others) early) =
+      ap (λ (l : List ℕ). spans_from l 0 others) (sym (take-append-drop (2 * others) early))
+      ∙ spans_first (take (2 * others) early) (drop (2 * others) early) others (length-take-le (2 * others) early fits)
+      in
+      let both : spans_read ring ≡ spans_straight later ++ spans_straight (take (2 * others) early) =
+      ap (λ (count : ℕ). spans_from (later ++ early) 0 count) sum ∙ spans_parts later early n others size ∙ rw second refl
+      in
+      rw (both, used, from_capped (get_or later (length later - 1) 0 + 2) now latest long (spans_straight (take (2 * others) early)) m)
+      (rw last at (sound_parts later 0 n now now latest long (spans_straight (take (2 * others) early)) (omega (arith, ring.whole, ring.begun)) m))
+
+  -- Of a stretch without end: one span, told by its two words.
+  pub endless_told : (now latest_first : ℕ)
+      → sound_endless? now latest_first (spans_read ring)
+      ≡ (eqb ring.count 1 && eqb (get_or later 1 0) mark && leb now (get_or later 0 0) && leb (get_or later 0 0) latest_first)
+  endless_told now latest_first =
+      endless_words later early ring.count now latest_first (omega (arith, ring.whole, ring.begun)) ring.some
+
+  -- The words of free places, in one part or in two.
+  pub free_early : length later < 2 * ring.count
+      → drop (2 * ring.count) (words_read ring)
+      ≡ take (length early - (2 * ring.count - length later)) (drop (2 * ring.count - length later) early)
+  free_early past =
+      let sum : 2 * ring.count ≡ length later + (2 * ring.count - length later) = omega arith in
+      ap (λ (n : ℕ). drop n (words_read ring)) sum
+      ∙ drop-append-add later early (2 * ring.count - length later)
+      ∙ sym (to_end early (2 * ring.count - length later))
+
+  pub free_around : 2 * ring.count ≤ length later
+      → zeros? (drop (2 * ring.count) (words_read ring)) ≡ (zeros? (take (length later - 2 * ring.count) (drop (2 * ring.count) later)) && zeros? early)
+  free_around within =
+      rw (drop-append-le (2 * ring.count) later early within, to_end later (2 * ring.count)) (zeros_append (drop (2 * ring.count) later) early)
+
 -- Which of the two tests is asked for.
-pub marked-last : (now latest_first latest_last long : ℕ) (S : List Span) {answer : Bool} → latest_last ≡ mark
+pub marked_last : (now latest_first latest_last long : ℕ) (S : List Span) {answer : Bool} → latest_last ≡ mark
     → answer ≡ sound_endless? now latest_first S
     → answer ≡ sound_spans? now latest_first (end_at latest_last) long S
 unfolding sound_spans? end_at
-marked-last now latest_first latest_last long S h told = rw (h, told) refl
+marked_last now latest_first latest_last long S h told = rw (h, told) refl
 
-pub plain-last : (now latest_first latest_last long : ℕ) (S : List Span) {answer : Bool} → latest_last < mark
+pub plain_last : (now latest_first latest_last long : ℕ) (S : List Span) {answer : Bool} → latest_last < mark
     → answer ≡ sound_from? now now latest_last long S
     → answer ≡ sound_spans? now latest_first (end_at latest_last) long S
 unfolding sound_spans?
-plain-last now latest_first latest_last long S h told = rw (plain_end latest_last h, told) refl
+plain_last now latest_first latest_last long S h told = rw (plain_end latest_last h, told) refl
 
 -- Which test decides a stretch: of none held the first place and every word; otherwise the places, then the spans and the words of free places.
 module _ (words : List ℕ) (held : Held) (now latest_first : ℕ) (latest_last : End) (long : ℕ) where
@@ -224,14 +286,13 @@ module _ (words : List ℕ) (held : Held) (now latest_first : ℕ) (latest_last 
       go (up_to last) = refl
       go no_end = refl
 
-  module _ (none : held.count ≡ 0) where
-    pub empty-placed : held.first ≡ 0 → sound_stretch? words held now latest_first latest_last long ≡ zeros? words
-    unfolding sound_stretch? placed? spans_from round_from
-    empty-placed start = rw (none, start, none-sound, le-leb 0 (places_of (length words)) (omega arith), append-nil words) refl
-
-    pub empty-misplaced : ¬ (held.first ≡ 0) → sound_stretch? words held now latest_first latest_last long ≡ false
-    unfolding sound_stretch? placed? spans_from
-    empty-misplaced some = rw (none, none-sound, le-leb 0 (places_of (length words)) (omega arith), ne_eqb held.first 0 some) refl
+  pub empty_told : held.count ≡ 0 → sound_stretch? words held now latest_first latest_last long ≡ (eqb held.first 0 && zeros? words)
+  unfolding sound_stretch? placed? spans_from round_from
+  empty_told none = go (eqb held.first 0) refl
+    where
+      go : (b : Bool) → eqb held.first 0 ≡ b → sound_stretch? words held now latest_first latest_last long ≡ (eqb held.first 0 && zeros? words)
+      go true e = rw (none, eqb-true held.first 0 e, none-sound, le-leb 0 (places_of (length words)) (omega arith), append-nil words) refl
+      go false e = rw (none, e, none-sound, le-leb 0 (places_of (length words)) (omega arith)) refl
 
   module _ (some : ¬ (held.count ≡ 0)) where
     pub outside : places_of (length words) ≤ held.first → sound_stretch? words held now latest_first latest_last long ≡ false
@@ -245,17 +306,25 @@ module _ (words : List ℕ) (held : Held) (now latest_first : ℕ) (latest_last 
     too_many over =
         rw (lt-leb held.count (places_of (length words)) over) (and_false (sound_spans? now latest_first latest_last long (spans_held words held)))
 
-    pub when-placed : HeldInside words held
+    -- Where the places are right, by the two parts that are read.
+    pub when_read : (later early : List ℕ) → later ≡ drop (2 * held.first) words → early ≡ take (2 * held.first) words
+        → held.first < places_of (length words)
+        → held.count ≤ places_of (length words)
         → sound_stretch? words held now latest_first latest_last long
-        ≡ (sound_spans? now latest_first latest_last long (spans_held words held) && zeros? (drop (2 * held.count) (round_from held.first words)))
-    unfolding sound_stretch? placed?
-    when-placed inside =
+        ≡ (sound_spans? now latest_first latest_last long (spans_from (later ++ early) 0 held.count) && zeros? (drop (2 * held.count) (later ++ early)))
+    unfolding sound_stretch? placed? round_from
+    when_read later early back front inside few =
         rw (
+          back,
+          front,
           ne_eqb held.count 0 some,
-          lt-ltb held.first (places_of (length words)) inside.1,
-          le-leb held.count (places_of (length words)) inside.2,
+          lt-ltb held.first (places_of (length words)) inside,
+          le-leb held.count (places_of (length words)) few,
         )
         refl
+
+-- What the ways out of `sound` stand on.
+pub ruleset by_places = (empty_told, outside, too_many, when_read, places_whole)
 
 -- What the test of the places tells.
 pub record PlacedRight (places : ℕ) (held : Held) : Type 0 where
@@ -289,63 +358,3 @@ right-inside words held right = go (eqb held.count 0) refl
     go : (b : Bool) → eqb held.count 0 ≡ b → Inside words held
     go true e = (omega (arith, right.unplaced (eqb-true held.count 0 e)), right.few)
     go false e = (omega (arith, right.inside (omega (arith, eqb-false held.count 0 e))), right.few)
-
--- The walk over the words between two.
-pub zeros-next : (words : List ℕ) (i end : ℕ) → i < end → end ≤ length words
-    → zeros? (take (end - i) (drop i words)) ≡ (eqb (get_or words i 0) 0 && zeros? (take (end - (i + 1)) (drop (i + 1) words)))
-unfolding zeros?
-zeros-next words i end h l =
-    let e : end - i ≡ suc (end - (i + 1)) = omega arith in
-    rw (e, drop-cons words i 0 (omega arith), add-one i) refl
-
-pub zeros-end : (words : List ℕ) (i end : ℕ) → end ≤ i → zeros? (take (end - i) (drop i words)) ≡ true
-unfolding zeros?
-zeros-end words i end h =
-    let e : end - i ≡ 0 = omega arith in
-    rw e refl
-
--- The words of free places, in one part or in two.
-zeros_append : (l r : List ℕ) → zeros? (l ++ r) ≡ (zeros? l && zeros? r)
-unfolding zeros?
-zeros_append [] r = refl
-zeros_append (word ∷ l) r = go (eqb word 0) (zeros_append l r)
-  where
-    go : (b : Bool) → zeros? (l ++ r) ≡ (zeros? l && zeros? r) → (b && zeros? (l ++ r)) ≡ (b && zeros? l && zeros? r)
-    go true h = h
-    go false h = refl
-
-drop_take : (j n : ℕ) (l : List ℕ) → drop j (take n l) ≡ take (n - j) (drop j l)
-drop_take zero n l = rw sub-zero refl
-drop_take (suc j) zero l =
-    let none : 0 - suc j ≡ 0 = omega arith in
-    rw none refl
-drop_take (suc j) (suc n) [] = sym (take-nil (suc n - suc j))
-drop_take (suc j) (suc n) (x ∷ l) =
-    let e : suc n - suc j ≡ n - j = omega arith in
-    rw e (drop_take j n l)
-
-module _ (words : List ℕ) (first used : ℕ) (inside : 2 * first ≤ length words) (fits : used ≤ length words) where
-  pub free_between : length words - 2 * first < used
-      → zeros? (drop used (round_from first words))
-      ≡ zeros? (take (2 * first - (used - (length words - 2 * first))) (drop (used - (length words - 2 * first)) words))
-  unfolding round_from
-  free_between past =
-      let j : ℕ = used - (length words - 2 * first) in
-      let e : used ≡ length (drop (2 * first) words) + j = rw length-drop (omega arith) in
-      ap zeros?
-      (ap (λ (n : ℕ). drop n (drop (2 * first) words ++ take (2 * first) words)) e
-      ∙ drop-append-add (drop (2 * first) words) (take (2 * first) words) j
-      ∙ drop_take j (2 * first) words)
-
-  pub free_around : used ≤ length words - 2 * first
-      → zeros? (drop used (round_from first words))
-      ≡ (zeros? (take (length words - (2 * first + used)) (drop (2 * first + used) words)) && zeros? (take (2 * first - 0) (drop 0 words)))
-  unfolding round_from
-  free_around within =
-      rw (
-        drop-append-le used (drop (2 * first) words) (take (2 * first) words) (rw length-drop within),
-        zeros_append (drop used (drop (2 * first) words)) (take (2 * first) words),
-        drop-drop used (2 * first) words,
-        sub-zero (2 * first),
-        take_all (length words - (2 * first + used)) (drop (2 * first + used) words) (rw length-drop (omega arith)),
-      )

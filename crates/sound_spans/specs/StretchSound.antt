@@ -1,9 +1,9 @@
 -- Whether a stretch is sound, computed in document 01's order. That the test tells exactly that is `stretch-told` in proofs/SoundTold.
-use Rattle.std.specs.Prelude.{Bool, true, false, ◌&&◌, ◌||◌, List, [], ◌∷◌, ℕ, ◌+◌, ◌≤◌, ◌<◌, leb, length}
+use Rattle.std.specs.Prelude.{Bool, true, false, ◌&&◌, ◌||◌, List, [], ◌∷◌, ℕ, ◌+◌, ◌/◌, leb, length}
 use Rattle.meaning.specs.Interval.{End, up_to, no_end}
 use Rattle.meaning.specs.Spans.{Span, ◌to◌}
 use Rattle.spans.specs.declared.stretch.Held.{Held}
-use Rattle.spans.specs.Layout.{places_of, spans_held, laid?}
+use Rattle.spans.specs.Layout.{span_words, spans_from, spans_held, laid?}
 
 -- The conditions on one span with an end, which may begin from a number on, in document 01's order.
 unfoldable pub sound_span? : (from now latest long first last : ℕ) → Bool
@@ -31,6 +31,6 @@ unfoldable pub sound_stretch? : List ℕ → Held → (now latest_first : ℕ) (
 sound_stretch? words held now latest_first latest_last long =
     sound_spans? now latest_first latest_last long (spans_held words held) && laid? words held
 
--- Some span is held, as many as have places, from a first place that is one: what the private functions of src/stretch ask.
-abbrev pub HeldInside : List ℕ → Held → Type 0
-HeldInside words held = (0 < held.count) × (held.first < places_of (length words)) × (held.count ≤ places_of (length words))
+-- The spans that words have from the start.
+abbrev pub spans_straight : List ℕ → List Span
+spans_straight words = spans_from words 0 (length words / span_words)

@@ -10,7 +10,8 @@ use borrow.Author.Tests.{leb-true}
 use Rattle.rules.specs.Limits.{row_limit}
 use Rattle.rules.specs.Rows.{rows_of}
 use Rattle.rules.specs.Stretches.{need_of}
-use Rattle.refusals.specs.Refusals.{refused}
+use Rattle.meaning.proofs.Truths.{zero_not_one}
+use Rattle.refusals.specs.Refusals.{Refused, refused}
 use Rattle.rules.specs.Table.{CheckReply, passed, refused_by, check_of}
 use Rattle.refusals.specs.declared.refusal.Refusal.TheVariants.{Store, RowList, DeadRow}
 use Rattle.row_list.specs.RowList.{list_passes}
@@ -26,7 +27,7 @@ pub record Ready (table : List ℕ) (size rows : ℕ) : Type 0 where
 
 passed_by : (said : CheckReply) → refusal_in said ≡ none → (rows : ℕ) × (need : ℕ) × (said ≡ passed rows need)
 passed_by (passed rows need) h = (rows, need, refl)
-passed_by (refused_by fault) h = let z : ◌≡◌ {A = ℕ} 0 1 = cc in absurd (omega arith)
+passed_by (refused_by fault) h = absurd (zero_not_one cc)
 
 pub table_ready : (table : List ℕ) (size : ℕ) → TableReady table size → Ready table size (rows_of table)
 table_ready table size h =
@@ -36,40 +37,45 @@ table_ready table size h =
     let needed : by.1 ≡ need_of table = given.needed in
     record { passes = rw (counted, needed) at given; room = h.room }
 
+-- What was said is left where a test is met, or where it is not.
+met : (test : Bool) (said : CheckReply) (fault : Refused) {rows need : ℕ} → cond test said (refused_by fault) ≡ passed rows need
+    → (test ≡ true) × (said ≡ passed rows need)
+met true said fault h = (refl, h)
+met false said fault h = absurd (zero_not_one cc)
+
+unmet : (test : Bool) (said : CheckReply) (fault : Refused) {rows need : ℕ} → cond test (refused_by fault) said ≡ passed rows need
+    → said ≡ passed rows need
+unmet true said fault h = absurd (zero_not_one cc)
+unmet false said fault h = h
+
 room_parts : (size rows need : ℕ) (said : CheckReply) → with_room size said ≡ passed rows need → (said ≡ passed rows need) × (need ≤ size)
-room_parts size rows need (refused_by fault) h = let z : ◌≡◌ {A = ℕ} 0 1 = cc in absurd (omega arith)
-room_parts size rows need (passed r n) h = go (leb n size) refl h
-  where
-    go : (b : Bool) → leb n size ≡ b → cond b (passed r n) (refused_by (refused Store)) ≡ passed rows need → (passed r n ≡ passed rows need) × (need ≤ size)
-    go true within e =
-        let same : n ≡ need = cc in
-        (e, omega (arith, leb-true n size within))
-    go false within e = let z : ◌≡◌ {A = ℕ} 0 1 = cc in absurd (omega arith)
+room_parts size rows need (refused_by fault) h = absurd (zero_not_one cc)
+room_parts size rows need (passed r n) h =
+    let both = met (leb n size) (passed r n) (refused Store) h in
+    let same : n ≡ need = (let said = both.1 in cc) in
+    (both.1, omega (arith, leb-true n size both.0))
 
 list_parts : (list : List ℕ) (rows need : ℕ) (said : CheckReply)
     → with_list list said ≡ passed rows need
     → (said ≡ passed rows need) × (list_passes list rows ≡ true)
-list_parts list rows need (refused_by fault) h = let z : ◌≡◌ {A = ℕ} 0 1 = cc in absurd (omega arith)
-list_parts list rows need (passed r n) h = go (list_passes list r) refl h
-  where
-    go : (b : Bool)
-        → list_passes list r ≡ b
-        → cond b (passed r n) (refused_by (refused RowList)) ≡ passed rows need
-        → (passed r n ≡ passed rows need) × (list_passes list rows ≡ true)
-    go true tested e =
-        let same : r ≡ rows = cc in
-        (e, rw same at tested)
-    go false tested e = let z : ◌≡◌ {A = ℕ} 0 1 = cc in absurd (omega arith)
+list_parts list rows need (refused_by fault) h = absurd (zero_not_one cc)
+list_parts list rows need (passed r n) h =
+    let both = met (list_passes list r) (passed r n) (refused RowList) h in
+    let same : r ≡ rows = (let said = both.1 in cc) in
+    (both.1, rw same at both.0)
 
 reached_parts : (table list : List ℕ) (rows need : ℕ) (said : CheckReply) → with_reached table list said ≡ passed rows need → said ≡ passed rows need
-reached_parts table list rows need (refused_by fault) h = let z : ◌≡◌ {A = ℕ} 0 1 = cc in absurd (omega arith)
-reached_parts table list rows need (passed r n) h = go (ltb (lowest_dead table list r) r) h
-  where
-    go : (b : Bool) → cond b (refused_by (refused (DeadRow (lowest_dead table list r)))) (passed r n) ≡ passed rows need → passed r n ≡ passed rows need
-    go true e = let z : ◌≡◌ {A = ℕ} 0 1 = cc in absurd (omega arith)
-    go false e = e
+reached_parts table list rows need (refused_by fault) h = absurd (zero_not_one cc)
+reached_parts table list rows need (passed r n) h =
+    unmet (ltb (lowest_dead table list r) r) (passed r n) (refused (DeadRow (lowest_dead table list r))) h
 
--- What is left to decide where table and list pass. Such a table has no more rows than are looked at for a dead one.
+-- A table that passes has no more rows than are looked at for a dead one.
+pub all_looked_at : (table : List ℕ) {rows need : ℕ} → passed rows need ≡ check_of table → min rows row_limit ≡ rows
+all_looked_at table {rows} {need} checked =
+    let given : Passed table rows need = passed_gives table rows need (sym checked) in
+    omega (arith, given.few-rows)
+
+-- What is left to decide where table and list pass.
 pub ready_listed : (table list : List ℕ) (size : ℕ) {rows need dead : ℕ}
     → check_of table ≡ passed rows need
     → list_passes list rows ≡ true
@@ -77,9 +83,7 @@ pub ready_listed : (table list : List ℕ) (size : ℕ) {rows need dead : ℕ}
     → ready_of (setup_of table list) size ≡ with_room size (cond (ltb dead rows) (refused_by (refused (DeadRow dead))) (passed rows need))
 unfolding ready_of
 ready_listed table list size {rows} {need} {dead} checked passes told =
-    let given : Passed table rows need = passed_gives table rows need checked in
-    let all : min rows row_limit ≡ rows = omega (arith, given.few-rows) in
-    let lowest : lowest_dead table list rows ≡ dead = sym (rw all at told) in
+    let lowest : lowest_dead table list rows ≡ dead = sym (rw (all_looked_at table (sym checked)) at told) in
     rw (checked, passes, lowest)
 
 -- What is left of all of them: what the check said, and that the store has room.

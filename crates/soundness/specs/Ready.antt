@@ -1,12 +1,13 @@
 -- Refusals 1 to 3, 10, 11 and 4, with which start and every call begin (document 01, "Refusal numbers"; document 02, E4 and E8).
-use Rattle.std.specs.Prelude.{cond, List, ◌≡◌, ℕ, ◌≤◌, leb, ltb}
+use Rattle.std.specs.Prelude.{cond, List, ◌≡◌, ℕ, ◌≤◌, leb, ltb, Result}
 use Rattle.std.proofs.Math.Option.{Option, none, some}
 use Rattle.refusals.specs.Refusals.{Refused, refused}
+use Rattle.refusals.specs.declared.refusal.Refusal.{Refusal}
 use Rattle.refusals.specs.declared.refusal.Refusal.TheVariants.{Store, RowList, DeadRow}
 use Rattle.row_list.specs.RowList.{list_passes}
 use Rattle.rules.specs.Stretches.{need_of}
 use Rattle.rules.specs.Table.{CheckReply, passed, refused_by, check_of, check_reply}
-use Rattle.rules.specs.declared.table.Checked.{Checked}
+use Rattle.rules.specs.declared.table.Passed.{Passed}
 use Rattle.dead_rows.specs.DeadRows.{lowest_dead}
 use Rattle.soundness.specs.Setup.{Setup}
 
@@ -32,7 +33,7 @@ unfoldable pub ready_of : Setup → ℕ → CheckReply
 ready_of setup size = with_room size (with_reached setup.table setup.list (with_list setup.list (check_of setup.table)))
 
 -- What `ready` promises: its answer says this.
-abbrev pub Readies : Setup → (size : ℕ) → Checked → Type 0
+abbrev pub Readies : Setup → (size : ℕ) → Result Passed Refusal → Type 0
 Readies setup size answer = check_reply answer ≡ ready_of setup size
 
 abbrev pub refusal_in : CheckReply → Option Refused

@@ -47,11 +47,3 @@ nothing_seen rows =
       counts = replicate row_limit 0;
       firsts = replicate row_limit 0;
     }
-
--- What is held of a stretch, and a record, by their parts.
-abbrev pub held_of : (first count : ℕ) → Held
-held_of first count = record { first = first; count = count }
-
-abbrev pub record_of : (seen clock last rows : ℕ) (truths counts firsts : List ℕ) → Record
-record_of seen clock last rows truths counts firsts =
-    record { seen = seen; clock = clock; last = last; rows = rows; truths = truths; counts = counts; firsts = firsts }

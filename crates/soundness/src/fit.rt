@@ -1,50 +1,23 @@
 // Refusals 1 to 3, 10, 11 and 4, then 7, with which every call begins.
 
-ghost use Rattle.soundness.specs.Record.{record_of};
-ghost use Rattle.soundness.specs.Setup.{setup_of};
+ghost use Rattle.soundness.specs.Setup.{setup_in};
 ghost use Rattle.soundness.specs.Fit.{Fits};
 
 use crate::ready::ready;
-use crate::soundness::sound_record;
+use crate::record::Record;
+use crate::setup::Setup;
+use crate::soundness::is_sound;
 use refusals::refusal::Refusal;
-use rules::limits::ROW_LIMIT;
-use rules::table::Checked;
+use rules::table::Passed;
 
-// The rows and the need of a table, or the refusal of table, list, store or record. The record is lent in parts.
-pub fn fit(
-    table: &[u32],
-    list: &[u32],
-    store: &[u64],
-    seen: u8,
-    clock: u64,
-    last: u64,
-    count: u32,
-    truths: &[u8; ROW_LIMIT],
-    counts: &[u32; ROW_LIMIT],
-    firsts: &[u32; ROW_LIMIT],
-) -> Checked
-    ensures { Fits (setup_of table.now list.now) store.now
-        (record_of seen clock last count truths.now counts.now firsts.now) result }
+// The rows and the need of a table, or the refusal of table, list, store or record.
+#[tactic(auto, using(crate::proofs::ReadyLaws::ready_table), unfolding(crate::specs::Fit::fit_of))]
+pub fn fit(setup: Setup, store: &[u64], found: &Record) -> Result<Passed, Refusal>
+    ensures { Fits (setup_in setup.entry) store.now found.now result }
 {
-    let checked = ready(table, list, store.len());
-    match checked {
-        Checked::Refused(refusal) => Checked::Refused(refusal),
-        Checked::Passed { rows, need } => {
-            if sound_record(
-                table,
-                store,
-                rows as usize,
-                seen,
-                clock,
-                last,
-                count,
-                truths,
-                counts,
-                firsts,
-            ) {
-                return Checked::Passed { rows, need };
-            }
-            Checked::Refused(Refusal::Unsound)
-        }
+    let passed = ready(setup, store.len())?;
+    if is_sound(setup.table, store, found) {
+        return Ok(passed);
     }
+    Err(Refusal::Unsound)
 }

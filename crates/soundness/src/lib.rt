@@ -6,4 +6,5 @@
 pub mod fit;
 pub mod ready;
 pub mod record;
+pub mod setup;
 mod soundness;

@@ -5,7 +5,8 @@ ghost use Rattle.soundness.specs.Record.{nothing_seen};
 
 use rules::limits::ROW_LIMIT;
 
-// As C has it: a truth is a byte, 1 for true and 0 for false. C memory may hold any byte there; one over 1 is not sound.
+// As C has it, the arrays side by side and a time beside whether it was seen too: a truth is a byte, 1 for true and 0 for false. C memory may hold any byte there;
+// one over 1 is not sound.
 #[repr(C)]
 #[derive(Clone, Copy)]
 pub struct Record {
@@ -23,6 +24,7 @@ pub struct Record {
 }
 
 // A record with nothing seen, of so many rows; all zero where there are none.
+#[tactic(auto, unfolding(crate::specs::Record::nothing_seen))]
 pub fn nothing_seen(rows: u32) -> Record
     ensures { result ≡ nothing_seen rows }
 {

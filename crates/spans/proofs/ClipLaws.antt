@@ -5,15 +5,17 @@ use mathlib.Core.Path.{◌≡◌, refl, sym, ap, ◌∙◌}
 use Prim.Native.Nat.{ℕ, zero, suc, ◌+◌, ◌*◌, ◌-◌, ◌≤◌, ◌<◌, max}
 use native.Mathlib.Omega.{arith}
 use borrow.Author.Tests.{ne_eqb, eqb-true, eqb-false, lt-ltb, le-ltb}
-use lib.Dec.{eqb}
+use lib.Dec.{eqb, ltb}
 use lib.ListN.{length, get_or, drop, set, replicate, length-append, length-drop, length-replicate}
 use lib.Seq.{drop-append-le, take-append-le, drop_at}
 use Rattle.meaning.specs.Spans.{Span, ◌to◌, ended, clip}
 use Rattle.spans.specs.declared.stretch.Held.{Held}
-use Rattle.spans.specs.Layout.{mark, places_of, place_at, spans_from, round_from, spans_held, words_of, spans_over, freed, freed_from}
-use Rattle.spans.specs.Stretch.{ended_count, first_left, Inside, SpansWritten, SpansKept}
+use Rattle.spans.specs.declared.stretch.Ring.{Ring}
+use Rattle.spans.specs.Layout.{mark, place_at, spans_from, round_from, spans_held, words_of, spans_over, freed, freed_from}
+use Rattle.spans.specs.Ring.{places_in}
+use Rattle.spans.specs.Stretch.{ended_count, first_left, first_raised, Inside, SpansWritten, SpansKept}
 use Rattle.spans.proofs.RoundLaws.{places_fit, places_whole, place_inside, length_round, round_laid, length_laid, round_get, round_set, round_on}
-use Rattle.spans.proofs.LayoutLaws.{Stored, ended_word, spans-next, spans-none, length_words, held-written, length_freed, drop_zeros, take_zeros}
+use Rattle.spans.proofs.LayoutLaws.{Stored, ended_word, spans-next, spans-none, length_words, held_written, last_read, length_freed, drop_zeros, take_zeros}
 
 unfoldable clip_first : ℕ → List Span → List Span
 clip_first time [] = []
@@ -41,7 +43,7 @@ clip_shorter time S =
     in
     omega (arith, length-drop (ended_count time S) S)
 
-pub ended_le : (time : ℕ) (S : List Span) → ended_count time S ≤ length S
+ended_le : (time : ℕ) (S : List Span) → ended_count time S ≤ length S
 unfolding ended_count
 ended_le time [] = omega arith
 ended_le time ((first to last) ∷ S) = go (ended time last) refl (ended_le time S)
@@ -50,22 +52,31 @@ ended_le time ((first to last) ∷ S) = go (ended time last) refl (ended_le time
     go true e h = rw e (omega arith)
     go false e h = rw e (omega arith)
 
--- The count of ended spans from a place on: one more where the last there is before the time, none where it is not, none past the spans.
-pub ended-more : (words : List ℕ) (place count time : ℕ) → place < count → time ≤ mark → get_or words (2 * place + 1) 0 < time
-    → ended_count time (spans_from words place (count - place)) ≡ suc (ended_count time (spans_from words (place + 1) (count - (place + 1))))
-unfolding ended_count
-ended-more words place count time h m l =
-    rw (spans-next words place count h, ended_word time (get_or words (2 * place + 1) 0) m, lt-ltb _ _ l) refl
+-- The count of ended spans held, from the i-th on: one more where the last at its place is before the time, none where it is not, none past the spans.
+module _ (ring : Ring) (time : ℕ) (early : time ≤ mark) where
+  abbrev pub ended-from : ℕ → ℕ
+  ended-from i = ended_count time (spans_from (round_from ring.held.first ring.words.now) i (ring.held.count - i))
 
-pub ended_stop : (words : List ℕ) (place count time : ℕ) → place < count → time ≤ mark → time ≤ get_or words (2 * place + 1) 0
-    → ended_count time (spans_from words place (count - place)) ≡ 0
-unfolding ended_count
-ended_stop words place count time h m l =
-    rw (spans-next words place count h, ended_word time (get_or words (2 * place + 1) 0) m, le-ltb _ _ l) refl
+  module _ (i place : ℕ) (fewer : i < ring.held.count) (at : place ≡ place_at (places_in ring) ring.held.first i) where
+    ended-here : ended-from i ≡ cond (ltb (get_or ring.words.now (2 * place + 1) 0) time) (suc (ended-from (i + 1))) 0
+    unfolding ended_count
+    ended-here =
+        rw (
+          spans-next (round_from ring.held.first ring.words.now) i ring.held.count fewer,
+          ended_word time (get_or (round_from ring.held.first ring.words.now) (2 * i + 1) 0) early,
+          last_read ring.words.now ring.held i place ring.inside fewer at,
+        )
+        refl
 
-pub ended-none : (words : List ℕ) (place count time : ℕ) → count ≤ place → ended_count time (spans_from words place (count - place)) ≡ 0
-unfolding ended_count
-ended-none words place count time h = rw (spans-none words place count h) refl
+    pub ended_more : get_or ring.words.now (2 * place + 1) 0 < time → ended-from i ≡ suc (ended-from (i + 1))
+    ended_more before = ended-here ∙ rw (lt-ltb _ _ before) refl
+
+    pub ended_stop : time ≤ get_or ring.words.now (2 * place + 1) 0 → ended-from i ≡ 0
+    ended_stop after = ended-here ∙ rw (le-ltb _ _ after) refl
+
+  pub ended_none : (i : ℕ) → ring.held.count ≤ i → ended-from i ≡ 0
+  unfolding ended_count
+  ended_none i past = rw (spans-none (round_from ring.held.first ring.words.now) i ring.held.count past) refl
 
 pub clip_stored : (time : ℕ) (S : List Span) → Stored S → Stored (clip time S)
 unfolding clip Stored
@@ -153,9 +164,18 @@ none_of [] e = refl
 none_of (p ∷ S) e = absurd (omega arith)
 
 -- Words of which the first spans are freed, in a ring.
-module _ (words : List ℕ) (held : Held) (inside : Inside words held) where
+module _ (ring : Ring) where
+  abbrev words : List ℕ
+  words = ring.words.now
+
+  abbrev held : Held
+  held = ring.held
+
+  abbrev inside : Inside words held
+  inside = ring.inside
+
   abbrev p : ℕ
-  p = places_of (length words)
+  p = places_in ring
 
   abbrev T : List ℕ
   T = round_from held.first words
@@ -167,14 +187,18 @@ module _ (words : List ℕ) (held : Held) (inside : Inside words held) where
   first_fits count = rw (length-append, length-replicate, length-drop, length_round held.first words) (omega (arith, inside.0, places_fit (length words)))
 
   -- They are read so.
-  pub read_freed : (count : ℕ) → round_from held.first (freed_from held.first count words) ≡ freed count T
+  read_freed : (count : ℕ) → round_from held.first (freed_from held.first count words) ≡ freed count T
   read_freed count = round_laid held.first (freed count T) (first_fits count)
 
-  pub length_freed_from : (count : ℕ) → count ≤ p → length (freed_from held.first count words) ≡ length words
+  length_freed_from : (count : ℕ) → count ≤ p → length (freed_from held.first count words) ≡ length words
   length_freed_from count few =
       length_laid held.first (freed count T)
       ∙ length_freed count T (rw (length_round held.first words) (omega (arith, places_fit (length words))))
       ∙ length_round held.first words
+
+  -- No more spans ended than are held.
+  pub ended_few : (time : ℕ) → ended_count time (spans_held words held) ≤ held.count
+  ended_few time = omega (arith, ended_le time (spans_held words held), (held_written words held inside).counted)
 
   -- All spans drop out: their words are freed.
   pub all_dropped : (left : Held) → left.count ≡ 0 → left.first ≡ 0
@@ -188,26 +212,20 @@ module _ (words : List ℕ) (held : Held) (inside : Inside words held) where
       }
 
   -- Those that ended drop out, and the first that is left begins at the time.
-  pub clip-written : (time gone : ℕ) (left : Held)
+  pub clip_written : (time gone : ℕ) (left : Held)
       → gone ≡ ended_count time (spans_held words held)
       → left.first ≡ first_left p held (held.count - gone)
       → left.count ≡ held.count - gone
-      → SpansKept
-      words
-      held
-      (cond (eqb left.count 0) (freed_from held.first gone words)
-      (set (freed_from held.first gone words) (2 * place_at p left.first 0)
-      (max time (get_or (freed_from held.first gone words) (2 * place_at p left.first 0) 0))))
-      left
-      (clip time (spans_held words held))
+      → SpansKept words held (first_raised time (freed_from held.first gone words) left) left (clip time (spans_held words held))
   unfolding first_left
-  clip-written time gone left many placed counted = go (eqb left.count 0) refl
+  clip_written time gone left many placed counted =
+      rw (length_freed_from gone (omega (arith, few, read.counted, inside.1))) (go (eqb left.count 0) refl)
     where
       S : List Span
       S = spans_held words held
 
       read : SpansWritten words words held S
-      read = held-written words held inside
+      read = held_written words held inside
 
       few : gone ≤ length S
       few = rw many (ended_le time S)

@@ -1,18 +1,23 @@
 -- Laws of the test whether a time lies in a span: it tells so, and where the spans rise from the time the first one tells.
-use mathlib.Core.Bool.{false, or-false}
+use mathlib.Core.Bool.{false, ◌&&◌, or-false}
 use mathlib.Core.List.{List, [], ◌∷◌}
-use mathlib.Core.Path.{◌≡◌, refl, ap}
-use Prim.Native.Nat.{ℕ, ◌+◌, ◌≤◌, ◌<◌}
+use mathlib.Core.Path.{◌≡◌, refl, ap, ◌∙◌}
+use Prim.Native.Nat.{ℕ, ◌+◌, ◌*◌, ◌≤◌, ◌<◌}
 use native.Mathlib.Nat.{sub-zero}
 use native.Mathlib.Omega.{arith}
+use lib.Dec.{leb}
+use lib.ListN.{length, get_or}
 use Rattle.meaning.specs.Interval.{up_to, no_end}
 use Rattle.meaning.specs.Spans.{Span, ◌to◌, In, Rising}
 use Rattle.meaning.proofs.SpansLaws.{in_least}
 use Rattle.meaning.proofs.Tells.{Tells, tells_leb, tells_and, tells_or, told_false}
 use Rattle.meaning.proofs.FormulaLaws.{tells_not_past}
-use Rattle.spans.specs.Layout.{span_at, spans_from}
+use Rattle.spans.specs.declared.stretch.Ring.{Ring}
+use Rattle.spans.specs.Layout.{mark, place_at, round_from}
 use Rattle.spans.specs.Stretch.{span_covers, covered, first_covers}
-use Rattle.spans.proofs.LayoutLaws.{spans-next}
+use Rattle.spans.specs.Ring.{places_in, spans_of}
+use Rattle.spans.proofs.RoundLaws.{places_whole, round_span}
+use Rattle.spans.proofs.LayoutLaws.{not_past_word, spans-next}
 
 pub covered-told : (time : ℕ) (S : List Span) → Tells (covered time S) (In time S)
 unfolding covered In
@@ -32,7 +37,16 @@ first_tells time [] rises = refl
 first_tells time ((first to up_to last) ∷ S) rises = rw (covered_later (last + 2) time S rises.2 (omega arith), or-false) refl
 first_tells time ((first to no_end) ∷ S) rises = rw (rises.1, or-false) refl
 
--- The first of the spans held is the span at the first place.
-pub first-held : (words : List ℕ) (count time : ℕ) → 0 < count → first_covers time (spans_from words 0 count) ≡ span_covers time (span_at words 0)
+-- The first of the spans held is the one at the first place, as its two words say.
+pub first_at : (ring : Ring) (place time : ℕ) → 0 < ring.held.count → time ≤ mark → place ≡ place_at (places_in ring) ring.held.first 0
+    → first_covers time (spans_of ring)
+    ≡ (leb (get_or ring.words.now (2 * place) 0) time && leb time (get_or ring.words.now (2 * place + 1) 0))
 unfolding first_covers
-first-held words count time some = rw sub-zero at (ap (first_covers time) (spans-next words 0 count some))
+first_at ring place time some early at =
+    let words : List ℕ = ring.words.now in
+    let first : ℕ = ring.held.first in
+    let known : 0 < places_in ring = omega (arith, ring.inside.1) in
+    let next = spans-next (round_from first words) 0 ring.held.count some in
+    ap (first_covers time) (rw sub-zero at next)
+    ∙ ap (span_covers time) (round_span words (places_in ring) first 0 (places_whole (length words) known) ring.inside.0 known)
+    ∙ rw (← at, not_past_word time (get_or words (2 * place + 1) 0) early) refl

@@ -90,7 +90,7 @@ spans-none words place count h =
     let e : count - place ≡ 0 = omega arith in
     rw e refl
 
-spans_shift : (a b : ℕ) (words : List ℕ) (place count : ℕ) → spans_from (a ∷ b ∷ words) (suc place) count ≡ spans_from words place count
+pub spans_shift : (a b : ℕ) (words : List ℕ) (place count : ℕ) → spans_from (a ∷ b ∷ words) (suc place) count ≡ spans_from words place count
 unfolding spans_from
 spans_shift a b words place zero = refl
 spans_shift a b words place (suc count) =
@@ -185,8 +185,8 @@ read-written words count room =
       counted = sym many;
     }
 
-pub held-written : (words : List ℕ) (held : Held) → Inside words held → SpansWritten words words held (spans_held words held)
-held-written words held inside =
+pub held_written : (words : List ℕ) (held : Held) → Inside words held → SpansWritten words words held (spans_held words held)
+held_written words held inside =
     read-written (round_from held.first words) held.count
     (rw (length_round held.first words) (omega (arith, inside.1, places_fit (length words))))
 
@@ -205,7 +205,7 @@ pub read-laid : (words : List ℕ) (held : Held) → Inside words held
     → Laid (length words) words held (spans_held words held)
 unfolding packed spans_over
 read-laid words held inside unplaced placed zeros =
-    let read = held-written words held inside in
+    let read = held_written words held inside in
     record {
       written = read.written ∙ rw (← read.counted, zeros) refl;
       counted = read.counted;
@@ -259,8 +259,8 @@ unfolding spans_over packed
 over_zeros size S fits = ap (λ (rest : List ℕ). words_of S ++ rest) (drop_zeros (2 * length S) size fits)
 
 -- Spans that have places all fit.
-pub fitting-all : (words : List ℕ) (S : List Span) → length S ≤ places_of (length words) → fitting words S ≡ S
-fitting-all words S h = take_all (places_of (length words)) S h
+pub fitting_all : (words : List ℕ) (S : List Span) → length S ≤ places_of (length words) → fitting words S ≡ S
+fitting_all words S h = take_all (places_of (length words)) S h
 
 pub take_stored : (n : ℕ) (S : List Span) → Stored S → Stored (take n S)
 unfolding Stored

@@ -1,5 +1,4 @@
--- Any two outcomes that the contract of a public function allows are the same. `clear_words`, `places` and `place_at` say all by
--- one equation.
+-- Any two outcomes that the contract of a public function allows are the same. `places` and `place_at` say all by one equation.
 use mathlib.Core.Bool.{Bool}
 use mathlib.Core.List.{List}
 use mathlib.Core.Path.{◌≡◌, sym, ap, ◌∙◌}

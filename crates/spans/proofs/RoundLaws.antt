@@ -9,27 +9,7 @@ use native.Mathlib.Omega.{arith}
 use borrow.Author.Tests.{eq-eqb, eqb-true, lt-ltb, le-ltb}
 use lib.Dec.{eqb}
 use lib.ListN.{length, get_or, take, drop, set, length-append, length-drop, length-take, length-set, take-append-drop, get_or-append}
-use lib.Seq.{
-  take_all,
-  take_at,
-  drop_at,
-  take-append-add,
-  drop-append-add,
-  take-append-le,
-  drop-append-le,
-  take-take,
-  take-add,
-  drop-drop,
-  length-take-le,
-  get_or-append-add,
-  get_or-drop,
-  get_or-take,
-  set-append_left,
-  take-set-le,
-  take-set-lt,
-  drop-set-lt,
-  drop-set-add,
-}
+use lib.Seq.{take_at, drop_at, take-append-add, drop-append-add, take-append-le, drop-append-le, take-take, take-add, drop-drop, length-take-le, get_or-append-add, get_or-drop, get_or-take, set-append_left, take-set-le, take-set-lt, drop-set-lt, drop-set-add}
 use Rattle.meaning.proofs.SpansLaws.{le_or_lt}
 use Rattle.spans.specs.Layout.{places_of, place_at, span_at, round_from, laid_from}
 
@@ -57,7 +37,7 @@ pub places_whole : (size : ℕ) → 0 < places_of size → 2 * places_of size �
 places_whole size = places_cases (λ n. 0 < n → 2 * n ≡ size) size (λ even some. omega arith) (λ none. absurd (omega arith))
 
 -- By cases: before the last place, or past it and round.
-pub place_cases : (P : ℕ → Type 0) (places first i : ℕ)
+place_cases : (P : ℕ → Type 0) (places first i : ℕ)
     → (i < places - first → P (first + i))
     → (places - first ≤ i → P (i - (places - first)))
     → P (place_at places first i)
@@ -73,8 +53,8 @@ pub place_inside : (places first i : ℕ) → first ≤ places → i < places �
 place_inside places first i h l =
     place_cases (λ n. n < places) places first i (λ before. omega arith) (λ past. omega arith)
 
-pub place-fits : (size first i : ℕ) → first ≤ places_of size → i < places_of size → 2 * (place_at (places_of size) first i + 1) ≤ size
-place-fits size first i inside known = omega (arith, place_inside (places_of size) first i inside known, places_fit size)
+pub place_fits : (size first i : ℕ) → first ≤ places_of size → i < places_of size → 2 * (place_at (places_of size) first i + 1) ≤ size
+place_fits size first i inside known = omega (arith, place_inside (places_of size) first i inside known, places_fit size)
 
 pub length_round : (place : ℕ) (words : List ℕ) → length (round_from place words) ≡ length words
 unfolding round_from

@@ -5,18 +5,20 @@ use mathlib.Core.List.{List, [], ◌∷◌, ◌++◌}
 use mathlib.Core.Path.{◌≡◌, refl, sym, ap, subst, ◌∙◌}
 use Prim.Native.Nat.{ℕ, ◌+◌, ◌*◌, ◌-◌, ◌≤◌, ◌<◌}
 use native.Mathlib.Omega.{arith}
-use borrow.Author.Tests.{eqb-true, eqb-false, ltb-true, leb-true, lt-ltb, le-leb}
+use borrow.Author.Tests.{eqb-true, eqb-false, lt-ltb, le-leb}
 use lib.Dec.{eqb, ltb, leb}
 use lib.ListN.{length, take, drop, replicate, length-take, length-replicate, replicate-append-replicate}
 use Rattle.meaning.specs.Spans.{Span, ◌to◌, Rising, touches, extended, clip, join, update}
 use Rattle.spans.specs.declared.stretch.Held.{Held}
+use Rattle.spans.specs.declared.stretch.Ring.{Ring}
+use Rattle.spans.specs.declared.stretch.Span as Words
 use Rattle.spans.specs.declared.stretch.Updated.{Updated}
-use Rattle.spans.specs.Layout.{end_at, places_of, round_from, laid_from, spans_held, packed, ring_of, Laid, Packed, fitting, spans_over, freed, freed_from}
+use Rattle.spans.specs.Ring.{spans_of, SameWords, RingKept, RingWritten, RingUpdated}
+use Rattle.spans.specs.Layout.{end_at, span_in, places_of, round_from, laid_from, spans_held, packed, ring_of, Laid, Packed, fitting, spans_over, freed, freed_from}
 use Rattle.spans.specs.Stretch.{
   covered,
   first_covers,
   held_found,
-  spans_in,
   kept_of,
   spans_fed,
   first_left,
@@ -34,14 +36,14 @@ use Rattle.spans.proofs.LayoutLaws.{
   take_stored,
   length_packed,
   laid-inside,
-  held-written,
+  held_written,
   written_read,
   over_again,
   over_zeros,
   freed-packed,
   drop_zeros,
   take_zeros,
-  fitting-all,
+  fitting_all,
 }
 use Rattle.spans.proofs.ClipLaws.{clip_stored, clip_shorter}
 use Rattle.spans.proofs.JoinLaws.{join_stored}
@@ -83,18 +85,6 @@ fed_grows : (feed : Bool) (s : Span) (K : List Span) (room : ℕ) → length K �
 fed_grows true s K room h = rw length-take (omega (arith, join_grows s K))
 fed_grows false s K room h = rw length-take (omega arith)
 
--- What is found has its places in the words.
-pub found_inside : (words : List ℕ) (held : Held) → Inside words (held_found words held)
-unfolding held_found
-found_inside words held =
-    go (ltb held.first (places_of (length words))) refl (leb held.count (places_of (length words))) refl
-  where
-    go : (a : Bool) → ltb held.first (places_of (length words)) ≡ a → (b : Bool) → leb held.count (places_of (length words)) ≡ b
-        → Inside words (held_found words held)
-    go true h true l = rw (h, l) (omega (arith, ltb-true held.first (places_of (length words)) h), leb-true held.count (places_of (length words)) l)
-    go true h false l = rw (h, l) (omega arith, omega arith)
-    go false h b l = rw h (omega arith, omega arith)
-
 -- The first place of what is left is a place, where there is one.
 first-left : (places : ℕ) (held : Held) (left : ℕ) → held.first ≤ places → held.count ≤ places → 0 < places → first_left places held left < places
 unfolding first_left
@@ -104,16 +94,16 @@ first-left places held left inside few some = go (eqb left 0) refl
     go true e = rw e some
     go false e = rw e (place_inside places held.first (held.count - left) inside (omega (arith, eqb-false left 0 e)))
 
-pub first-none : (places : ℕ) (held : Held) (left : ℕ) → left ≡ 0 → first_left places held left ≡ 0
+pub first_none : (places : ℕ) (held : Held) (left : ℕ) → left ≡ 0 → first_left places held left ≡ 0
 unfolding first_left
-first-none places held left none = rw none refl
+first_none places held left none = rw none refl
 
-pub first-within : (places : ℕ) (held : Held) (left : ℕ) → held.first ≤ places → held.count ≤ places → left ≤ held.count
+pub first_within : (places : ℕ) (held : Held) (left : ℕ) → held.first ≤ places → held.count ≤ places → left ≤ held.count
     → first_left places held left ≤ places
-first-within places held left inside few fewer = go (eqb left 0) refl
+first_within places held left inside few fewer = go (eqb left 0) refl
   where
     go : (b : Bool) → eqb left 0 ≡ b → first_left places held left ≤ places
-    go true e = omega (arith, first-none places held left (eqb-true left 0 e))
+    go true e = omega (arith, first_none places held left (eqb-true left 0 e))
     go false e = omega (arith, first-left places held left inside few (omega (arith, eqb-false left 0 e)))
 
 -- Where it is right for so many spans, of which those left are some: 0 for none, otherwise a place.
@@ -125,7 +115,7 @@ pub first_fits : (places : ℕ) (held : Held) (left many : ℕ) → held.first �
     → FirstFits places many (first_left places held left)
 first_fits places held left many inside few fewer fit =
     record {
-      unplaced = λ none. first-none places held left (omega arith);
+      unplaced = λ none. first_none places held left (omega arith);
       inside = λ some. first-left places held left inside few (omega arith);
     }
 
@@ -136,82 +126,55 @@ first_small {places} {many} {first} right few = go (eqb many 0) refl
     go true e = omega (arith, right.unplaced (eqb-true many 0 e))
     go false e = omega (arith, right.inside (omega (arith, eqb-false many 0 e)))
 
--- The spans found are clipped or dropped, and then the span is joined in or not; what each step writes is read by the next.
-module _
-    (words mid : List ℕ)
-    (found kept : Held)
-    (keep : Bool)
-    (time : ℕ)
-    (inside : Inside words found)
-    (clipped : SpansKept words found mid kept (kept_of keep time (spans_held words found)))
-    (same : length mid ≡ length words)
+-- The spans held are clipped or dropped, and then the span is joined in or not; what each step writes is read by the next.
+pub ring_updated : (ring kept fed : Ring) (keep feed : Bool) (time : ℕ) (s : Words.Span) {told : Bool} → SameWords ring kept
+    → RingKept ring kept (kept_of keep time (spans_of ring))
+    → RingWritten kept fed (spans_fed kept.words.now kept.held feed (span_in s))
+    → told ≡ first_covers time (spans_of fed)
+    → RingUpdated ring keep feed time (span_in s) fed told
+unfolding update
+ring_updated ring kept fed keep feed time s same clipped joined answer =
+    record {
+      spans =
+          record {
+            written =
+                fed-over.written
+                ∙ ap (λ (l : List ℕ). spans_over l U)
+                (ap (λ (n : ℕ). round_from n kept.words.now) joined.0 ∙ clipped.spans.written)
+                ∙ over_again (round_from kept.held.first (freed_from ring.held.first ring.held.count words)) K U fed-longer
+                ∙ rw joined.0 refl;
+            counted = fed-over.counted;
+          };
+      placed = joined.0 ∙ clipped.placed;
+      told = answer ∙ ap (first_covers time) (written_read fed-over stored);
+    }
   where
-    abbrev p : ℕ
-    p = places_of (length words)
+    words : List ℕ
+    words = ring.words.now
 
-    abbrev K : List Span
-    K = kept_of keep time (spans_held words found)
+    K : List Span
+    K = kept_of keep time (spans_of ring)
 
-    fewer : length K ≤ found.count
-    fewer = omega (arith, kept_shorter keep time (spans_held words found), (held-written words found inside).counted)
+    U : List Span
+    U = fitting words (update keep feed time (span_in s) (spans_of ring))
 
-    first_in : kept.first ≤ p
-    first_in = rw clipped.placed (first-within p found (length K) inside.0 inside.1 fewer)
+    held_stored : Stored (spans_of ring)
+    held_stored = spans_stored (round_from ring.held.first words) 0 ring.held.count
 
-    pub kept-inside : Inside mid kept
-    kept-inside = rw same (first_in, omega (arith, clipped.spans.counted, fewer, inside.1))
+    fewer : length K ≤ ring.held.count
+    fewer = omega (arith, kept_shorter keep time (spans_of ring), (held_written words ring.held ring.inside).counted)
 
-    kept_read : spans_held mid kept ≡ K
-    kept_read = written_read clipped.spans (kept_stored keep time (spans_held words found) (spans_stored (round_from found.first words) 0 found.count))
+    kept_read : spans_of kept ≡ K
+    kept_read = written_read clipped.spans (kept_stored keep time (spans_of ring) held_stored)
 
-    module _
-        (after : List ℕ)
-        (fed : Held)
-        (feed : Bool)
-        (first last : ℕ)
-        (stays : fed.first ≡ kept.first)
-        (joined : SpansWritten mid after fed (spans_fed mid kept feed (first to end_at last)))
-      where
-        abbrev U : List Span
-        U = fitting words (update keep feed time (first to end_at last) (spans_held words found))
+    fed-over : SpansWritten kept.words.now fed.words.now fed.held U
+    fed-over = rw (kept_read, same.1) at joined.1
 
-        fed-over : SpansWritten mid after fed U
-        unfolding update
-        fed-over = rw (kept_read, same) at joined
+    fed-longer : length K ≤ length U
+    fed-longer = fed_grows feed (span_in s) K (places_of (length words)) (omega (arith, fewer, ring.inside.1))
 
-        pub fed-inside : length after ≡ length mid → Inside after fed
-        fed-inside long =
-            rw (long, same)
-            (omega (arith, stays, first_in), rw fed-over.counted (rw length-take (omega arith)))
-
-        fed-longer : length K ≤ length U
-        unfolding update
-        fed-longer = fed_grows feed (first to end_at last) K p (omega (arith, fewer, inside.1))
-
-        fed-written : SpansWritten (freed_from found.first found.count words) after fed U
-        fed-written =
-            record {
-              written =
-                  fed-over.written
-                  ∙ ap (λ (l : List ℕ). spans_over l U)
-                  (ap (λ (n : ℕ). round_from n mid) stays ∙ clipped.spans.written)
-                  ∙ over_again (round_from kept.first (freed_from found.first found.count words)) K U fed-longer
-                  ∙ rw stays refl;
-              counted = fed-over.counted;
-            }
-
-        pub updated-to : {held : Held} {told : Bool} → found ≡ held_found words held → told ≡ first_covers time (spans_held after fed)
-            → UpdatedTo words held keep feed time (first to end_at last) after (record { held = fed; covered = told })
-        updated-to {held} {told} fit answer =
-            let stored : Stored U =
-            take_stored p _
-            (update_stored keep feed time first last (spans_held words found) (spans_stored (round_from found.first words) 0 found.count))
-            in
-            record {
-              spans = rw (← fit) fed-written;
-              placed = rw (← fit) (stays ∙ clipped.placed);
-              told = rw (← fit) (answer ∙ ap (first_covers time) (written_read fed-over stored));
-            }
+    stored : Stored U
+    stored = take_stored (places_of (length words)) _ (update_stored keep feed time s.first s.last (spans_of ring) held_stored)
 
 -- Zeros are read as zeros, from any place.
 swapped_zeros : (n size : ℕ) → n ≤ size → drop n (replicate {A = ℕ} size 0) ++ take n (replicate size 0) ≡ replicate size 0
@@ -316,7 +279,7 @@ module _ (words : List ℕ) (held : Held) (laid : Packed words held) where
       (done : UpdatedTo words held x y t s after updated)
     where
       all : fitting words (update x y t s (spans_held words held)) ≡ update x y t s (spans_held words held)
-      all = fitting-all words (update x y t s (spans_held words held)) room
+      all = fitting_all words (update x y t s (spans_held words held)) room
 
       same : UpdatedTo words held x y t s after updated
           → (updated.held.first ≡ first_left places held (length (kept_of x t (spans_held words held))))

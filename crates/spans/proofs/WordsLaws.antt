@@ -1,18 +1,18 @@
 -- Laws of the loops over words: one more word cleared, one more place freed.
-use mathlib.Core.List.{List, ◌++◌, append_assoc, append-nil}
+use mathlib.Core.List.{List, ◌++◌, append_assoc}
 use mathlib.Core.Path.{◌≡◌, ap, ◌∙◌}
 use Prim.Native.Nat.{ℕ, suc, ◌+◌, ◌*◌, ◌≤◌, ◌<◌}
 use native.Mathlib.Numerals.{add-one}
 use native.Mathlib.Omega.{arith}
 use lib.ListN.{length, get_or, drop, set, replicate, length-replicate, replicate-append-replicate}
-use lib.Seq.{drop-cons, drop-length, set_at}
+use lib.Seq.{drop-cons, set_at}
 use Rattle.spans.specs.Layout.{freed}
 
 -- The words up to place i are cleared.
-abbrev pub cleared : List ℕ → ℕ → List ℕ
+abbrev cleared : List ℕ → ℕ → List ℕ
 cleared words i = replicate i 0 ++ drop i words
 
-pub cleared_more : (words : List ℕ) (i : ℕ) → i < length words → set (cleared words i) i 0 ≡ cleared words (i + 1)
+cleared_more : (words : List ℕ) (i : ℕ) → i < length words → set (cleared words i) i 0 ≡ cleared words (i + 1)
 cleared_more words i h =
     rw (
       ← replicate-append-replicate {A = ℕ} i 1 0,
@@ -21,9 +21,6 @@ cleared_more words i h =
       set_at (replicate i 0) (get_or words i 0) (drop (suc i) words) 0 i (length-replicate i 0),
     )
     (simp append_assoc)
-
-pub cleared_all : (words : List ℕ) (i : ℕ) → i ≡ length words → cleared words i ≡ replicate (length words) 0
-cleared_all words i all = rw (all, drop-length words) (append-nil (replicate (length words) 0))
 
 -- The words of i places are freed.
 pub freed-more : (words : List ℕ) (i : ℕ) → 2 * (i + 1) ≤ length words → set (set (freed i words) (2 * i) 0) (2 * i + 1) 0 ≡ freed (i + 1) words

@@ -3,6 +3,7 @@ use Rattle.std.specs.Prelude.{Bool, true, cond, ◌&&◌, List, [], ◌∷◌, �
 use Rattle.meaning.specs.Interval.{End, up_to, no_end}
 use Rattle.meaning.specs.Spans.{Span, ◌to◌}
 use Rattle.spans.specs.declared.stretch.Held.{Held}
+use Rattle.spans.specs.declared.stretch.Span as Words
 
 -- "two words (first, last) for each span".
 abbrev pub span_words : ℕ
@@ -18,6 +19,10 @@ word_of no_end = mark
 
 unfoldable pub end_at : ℕ → End
 end_at word = cond (eqb word mark) no_end (up_to word)
+
+-- The span that two words say.
+abbrev pub span_in : Words.Span → Span
+span_in words = words.first to end_at words.last
 
 -- The span that is read at a place of the stretch, then as many from a place on.
 abbrev pub span_at : List ℕ → ℕ → Span

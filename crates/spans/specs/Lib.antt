@@ -2,3 +2,4 @@
 pub mod Layout
 pub mod Reached
 pub mod Stretch
+pub mod Ring

@@ -5,4 +5,3 @@
 pub mod reached;
 pub mod ring;
 pub mod stretch;
-pub mod words;

@@ -7,6 +7,7 @@ ghost use Rattle.spans.specs.Layout.{places_of, place_at};
 pub const SPAN_WORDS: usize = 2;
 
 // How many places so many words have; none where a word would be left over.
+#[tactic(auto, unfolding(crate::specs::Layout::places_of))]
 pub fn places(size: usize) -> usize
     ensures { result ≡ places_of size }
 {
@@ -17,6 +18,7 @@ pub fn places(size: usize) -> usize
 }
 
 // The place that is so many after the first, round; of any numbers at all.
+#[tactic(auto, unfolding(crate::specs::Layout::place_at))]
 pub fn place_at(places: usize, first: usize, i: usize) -> usize
     ensures { result ≡ place_at places first i }
 {

@@ -1,15 +1,15 @@
 // The spans of one row in its own part of the lent store, its stretch: two words a span, rising from the first place round, the words of free places 0.
 // The part is lent by whoever calls; what else is held of the row is handed in and back. No cost here passes the spans that are dropped, and one more.
 
-ghost use Rattle.std.specs.Prelude.{cond, [], ◌∷◌, ◌++◌, ◌≡◌, ◌≤◌, ◌<◌, ◌+◌, ◌-◌, ◌*◌, max, eqb, length, get_or, set};
-ghost use Rattle.meaning.specs.Spans.{◌to◌, clip, join};
-ghost use Rattle.spans.specs.Layout.{span_words, end_at, places_of, place_at, span_at, spans_held, fitting, freed_from};
-ghost use Rattle.spans.specs.Stretch.{span_covers, first_covers, ended_count, held_found, kept_of, spans_fed, first_left, Inside, SpansWritten, SpansKept, UpdatedTo, ClippedTo};
+ghost use Rattle.std.specs.Prelude.{[], ◌∷◌, ◌++◌, ◌≡◌, ◌≤◌, ◌<◌, ◌+◌, ◌-◌, ◌*◌, length};
+ghost use Rattle.meaning.specs.Spans.{clip, join};
+ghost use Rattle.spans.specs.Layout.{span_words, place_at, span_in, fitting, freed_from};
+ghost use Rattle.spans.specs.Stretch.{first_covers, ended_count, held_found, kept_of, spans_fed, first_left, first_raised, Inside, UpdatedTo, ClippedTo};
 
 use crate::ring::{SPAN_WORDS, place_at, places};
 use times::time::past_by;
 
-// The stored last of a span without end.
+// The stored last of a span without end: a word of the store that C lends, and so a number here.
 pub const MARK: u64 = 18_446_744_073_709_551_615;
 
 // What stands beside a stretch's words: the place of the first span, and how many spans it holds.
@@ -26,7 +26,14 @@ pub struct Updated {
     pub covered: bool,
 }
 
-// One event: the spans are clipped at its time, or all dropped unless `keep`, and the span from `first` to `last` is joined in if `feed`.
+// A span in two words; one without end has the mark for its last.
+#[derive(Clone, Copy)]
+pub struct Span {
+    pub first: u64,
+    pub last: u64,
+}
+
+// One event: the spans are clipped at its time, or all dropped unless `keep`, and the span is joined in if `feed`.
 // Of any words at all; a span that has no room is left out.
 pub fn update(
     words: &mut [u64],
@@ -34,212 +41,217 @@ pub fn update(
     keep: bool,
     feed: bool,
     time: u64,
-    first: u64,
-    last: u64,
+    span: Span,
 ) -> Updated
-    ensures { UpdatedTo words.old held keep feed time (first to end_at last) words.new result }
+    ensures { UpdatedTo words.old held keep feed time (span_in span) words.new result }
 {
-    let found = find(words, held);
-    let kept = clip_or_clear(words, found, keep, time);
-    let fed = join_or_not(words, kept, feed, first, last);
-    let covered = cover(words, fed, time);
-    Updated { held: fed, covered }
+    let mut ring = Ring::find(words, held);
+    let covered = ring.update(keep, feed, time, span);
+    Updated {
+        held: ring.held,
+        covered,
+    }
 }
 
 // Time alone, as a heartbeat moves it: the spans are clipped at the time and ended ones dropped. Of any words at all.
 pub fn clip(words: &mut [u64], held: Held, time: u64) -> Held
     ensures { ClippedTo words.old held words.new result time }
 {
-    let found = find(words, held);
-    clip_held(words, found, time)
+    let mut ring = Ring::find(words, held);
+    ring.clip(time);
+    ring.held
 }
 
-// What is held, where the words have such places; otherwise no span.
-fn find(words: &[u64], held: Held) -> Held
-    ensures { result ≡ held_found words.now held }
-{
-    let room = places(words.len());
-    if held.first < room {
-        if held.count <= room {
-            return held;
+// The words while they are lent, with what is held in them, whose places are there.
+#[derive(Drop)]
+struct Ring<'a> {
+    words: &'a mut [u64],
+    held: Held,
+    ghost inside: { Inside words.now held },
+}
+
+impl<'a> Ring<'a> {
+    ghost use Rattle.spans.specs.Ring.{places_in, spans_of, SameWords, RingKept, RingWritten, RingUpdated};
+
+    // What is held, where the words have such places; otherwise no span.
+    #[tactic(auto, unfolding(crate::specs::Stretch::held_found))]
+    fn find(words: &'a mut [u64], held: Held) -> Ring<'a>
+        ensures same_words { result.words.ghost_name ≡ words.entry.ghost_name }
+        ensures as_lent { result.words.now ≡ words.old }
+        ensures found { result.held ≡ held_found words.old held }
+    {
+        let room = places(words.len());
+        if held.first < room && held.count <= room {
+            return Ring { words, held };
+        }
+        Ring {
+            words,
+            held: Held { first: 0, count: 0 },
         }
     }
-    Held { first: 0, count: 0 }
-}
 
-fn clip_or_clear(words: &mut [u64], held: Held, keep: bool, time: u64) -> Held
-    requires { Inside words.old held }
-    ensures { SpansKept words.old held words.new result (kept_of keep time (spans_held words.old held)) }
-{
-    if keep {
-        return clip_held(words, held, time);
+    // One event. The answer is whether the time lies in the first span after it.
+    fn update(&mut self, keep: bool, feed: bool, time: u64, span: Span) -> bool
+        ensures same_words { SameWords self.old self.new }
+        ensures updated { RingUpdated self.old keep feed time (span_in span) self.new result }
+    {
+        self.clip_or_clear(keep, time);
+        self.join_or_not(feed, span);
+        self.covers(time)
     }
-    clear(words, held)
-}
 
-fn join_or_not(words: &mut [u64], held: Held, feed: bool, first: u64, last: u64) -> Held
-    requires { Inside words.old held }
-    ensures { (result.first ≡ held.first) × SpansWritten words.old words.new result
-        (spans_fed words.old held feed (first to end_at last)) }
-{
-    if feed {
-        return join(words, held, first, last);
-    }
-    held
-}
-
-// Whether the time lies in the first span held. In a sound stretch that was just clipped at the time no later one has it, so this tells of all.
-fn cover(words: &[u64], held: Held, time: u64) -> bool
-    requires { Inside words.now held }
-    ensures { result ≡ first_covers time (spans_held words.now held) }
-{
-    if held.count == 0 {
-        return false;
-    }
-    lies_in(words, place_of(words, held.first, 0), time)
-}
-
-// The spans held are clipped: ended ones are dropped, and the first that is left begins no earlier than the time.
-fn clip_held(words: &mut [u64], held: Held, time: u64) -> Held
-    requires { Inside words.old held }
-    ensures { SpansKept words.old held words.new result (clip time (spans_held words.old held)) }
-{
-    let gone = ended(words, held, time);
-    let left = drop_first(words, held, gone);
-    raise_first(words, left, time);
-    left
-}
-
-// All spans are dropped, and what is joined in next begins at place 0.
-fn clear(words: &mut [u64], held: Held) -> Held
-    requires { Inside words.old held }
-    ensures { SpansKept words.old held words.new result [] }
-{
-    free(words, held.first, held.count);
-    Held { count: 0, first: 0 }
-}
-
-// The first spans, so many, are dropped: their places are freed, and the first place goes on past them.
-fn drop_first(words: &mut [u64], held: Held, gone: usize) -> Held
-    requires { Inside words.old held × (gone ≤ held.count) }
-    ensures { (words.new ≡ freed_from held.first gone words.old)
-        × (result.first ≡ first_left (places_of (length words.old)) held (held.count - gone)) × (result.count ≡ held.count - gone) }
-{
-    free(words, held.first, gone);
-    let left = held.count - gone;
-    Held {
-        first: first_left(words, held, left),
-        count: left,
-    }
-}
-
-// The first place where so many of the spans held are left: past those that are not, round; 0 where none is left.
-fn first_left(words: &[u64], held: Held, left: usize) -> usize
-    requires { Inside words.now held × (left ≤ held.count) }
-    ensures { result ≡ first_left (places_of (length words.now)) held left }
-{
-    if left == 0 {
-        return 0;
-    }
-    place_of(words, held.first, held.count - left)
-}
-
-// The words of so many places, from the first on, become 0.
-fn free(words: &mut [u64], first: usize, count: usize)
-    requires { (first ≤ places_of (length words.old)) × (count ≤ places_of (length words.old)) }
-    ensures { words.new ≡ freed_from first count words.old }
-{
-    let mut i = 0;
-    while i < count {
-        let place = place_of(words, first, i);
-        words[SPAN_WORDS * place] = 0;
-        words[SPAN_WORDS * place + 1] = 0;
-        i += 1;
-    }
-}
-
-// The span from `first` to `last` is joined in: it extends the last span held where the two touch or overlap, otherwise it follows it.
-fn join(words: &mut [u64], held: Held, first: u64, last: u64) -> Held
-    requires { Inside words.old held }
-    ensures { (result.first ≡ held.first) × SpansWritten words.old words.new result
-        (fitting words.old (join (first to end_at last) (spans_held words.old held))) }
-{
-    if held.count == 0 {
-        return append(words, held, first, last);
-    }
-    let place = place_of(words, held.first, held.count - 1);
-    if past_by(words[SPAN_WORDS * place + 1], 2, first) {
-        return append(words, held, first, last);
-    }
-    words[SPAN_WORDS * place + 1] = last;
-    held
-}
-
-// How many spans from the first on ended before the time.
-fn ended(words: &[u64], held: Held, time: u64) -> usize
-    requires { Inside words.now held }
-    ensures { result ≡ ended_count time (spans_held words.now held) }
-{
-    let mut i = 0;
-    while i < held.count {
-        let place = place_of(words, held.first, i);
-        if time <= words[SPAN_WORDS * place + 1] {
-            return i;
+    #[tactic(auto, using(crate::proofs::ClipLaws::all_dropped, crate::proofs::UpdateLaws::first_none))]
+    fn clip_or_clear(&mut self, keep: bool, time: u64)
+        ensures same_words { SameWords self.old self.new }
+        ensures kept { RingKept self.old self.new (kept_of keep time (spans_of self.old)) }
+    {
+        if keep {
+            self.clip(time);
+        } else {
+            self.drop_first(self.held.count);
         }
-        i += 1;
     }
-    held.count
-}
 
-// The first span, if there is one, begins no earlier than the time.
-fn raise_first(words: &mut [u64], held: Held, time: u64)
-    requires { Inside words.old held }
-    ensures { words.new ≡ cond (eqb held.count 0) words.old
-        (set words.old (span_words * place_at (places_of (length words.old)) held.first 0)
-        (max time (get_or words.old (span_words * place_at (places_of (length words.old)) held.first 0) 0))) }
-{
-    if held.count == 0 {
-        return;
+    #[tactic(auto, using(crate::proofs::LayoutLaws::held_written, crate::proofs::LayoutLaws::fitting_all))]
+    fn join_or_not(&mut self, feed: bool, span: Span)
+        ensures same_words { SameWords self.old self.new }
+        ensures fed { RingWritten self.old self.new (spans_fed self.old.words.now self.old.held feed (span_in span)) }
+    {
+        if feed {
+            self.join(span);
+        }
     }
-    let place = place_of(words, held.first, 0);
-    if words[SPAN_WORDS * place] < time {
-        words[SPAN_WORDS * place] = time;
-    }
-}
 
-// The span is written after those held, if there is room.
-fn append(words: &mut [u64], held: Held, first: u64, last: u64) -> Held
-    requires { Inside words.old held }
-    ensures { (result.first ≡ held.first) × SpansWritten words.old words.new result
-        (fitting words.old (spans_held words.old held ++ ((first to end_at last) ∷ []))) }
-{
-    if places(words.len()) <= held.count {
-        return held;
+    // Whether the time lies in the first span held. In a sound stretch that was just clipped at the time no later one has it, so this tells of all.
+    #[tactic(auto, unfolding(crate::specs::Stretch::first_covers, crate::specs::Layout::spans_from))]
+    fn covers(&self, time: u64) -> bool
+        ensures { result ≡ first_covers time (spans_of self.now) }
+    {
+        if self.held.count == 0 {
+            return false;
+        }
+        let first = SPAN_WORDS * self.place(0);
+        self.words[first] <= time && time <= self.words[first + 1]
     }
-    let place = place_of(words, held.first, held.count);
-    words[SPAN_WORDS * place] = first;
-    words[SPAN_WORDS * place + 1] = last;
-    Held {
-        first: held.first,
-        count: held.count + 1,
-    }
-}
 
-// Where the i-th span from a first place on stands, or would.
-fn place_of(words: &[u64], first: usize, i: usize) -> usize
-    requires { (first ≤ places_of (length words.now)) × (i < places_of (length words.now)) }
-    ensures { (result ≡ place_at (places_of (length words.now)) first i) × (span_words * (result + 1) ≤ length words.now) }
-{
-    place_at(places(words.len()), first, i)
-}
-
-// Whether the time lies in the span at a place; the mark is after every time.
-fn lies_in(words: &[u64], place: usize, time: u64) -> bool
-    requires { span_words * (place + 1) ≤ length words.now }
-    ensures { result ≡ span_covers time (span_at words.now place) }
-{
-    if words[SPAN_WORDS * place] <= time {
-        return time <= words[SPAN_WORDS * place + 1];
+    // The spans held are clipped: ended ones are dropped, and the first that is left begins no earlier than the time.
+    #[tactic(auto, using(crate::proofs::ClipLaws::ended_few))]
+    fn clip(&mut self, time: u64)
+        ensures same_words { SameWords self.old self.new }
+        ensures kept { RingKept self.old self.new (clip time (spans_of self.old)) }
+    {
+        let gone = self.ended(time);
+        self.drop_first(gone);
+        self.raise_first(time);
     }
-    false
+
+    // The first spans, so many, are dropped: their places are freed, and the first place goes on past them.
+    #[tactic(auto, using(crate::proofs::UpdateLaws::first_within))]
+    fn drop_first(&mut self, gone: usize)
+        requires { gone ≤ self.old.held.count }
+        ensures same_words { SameWords self.old self.new }
+        ensures freed { self.new.words.now ≡ freed_from self.old.held.first gone self.old.words.now }
+        ensures placed { self.new.held.first ≡ first_left (places_in self.old) self.old.held (self.old.held.count - gone) }
+        ensures left { self.new.held.count ≡ self.old.held.count - gone }
+    {
+        self.free(gone);
+        self.held = Held {
+            first: self.first_after(gone),
+            count: self.held.count - gone,
+        };
+    }
+
+    // The first place past so many of the spans held, round; 0 where none is left.
+    #[tactic(auto, unfolding(crate::specs::Stretch::first_left))]
+    fn first_after(&self, gone: usize) -> usize
+        requires { gone ≤ self.now.held.count }
+        ensures { result ≡ first_left (places_in self.now) self.now.held (self.now.held.count - gone) }
+    {
+        if gone == self.held.count {
+            return 0;
+        }
+        self.place(gone)
+    }
+
+    // The words of so many places, from the first on, become 0.
+    fn free(&mut self, count: usize)
+        requires { count ≤ self.old.held.count }
+        ensures same_words { SameWords self.old self.new }
+        ensures same_held { self.new.held ≡ self.old.held }
+        ensures freed { self.new.words.now ≡ freed_from self.old.held.first count self.old.words.now }
+    {
+        for i in 0..count {
+            let place = SPAN_WORDS * self.place(i);
+            self.words[place] = 0;
+            self.words[place + 1] = 0;
+        }
+    }
+
+    // The first span, if there is one, begins no earlier than the time.
+    fn raise_first(&mut self, time: u64)
+        ensures same_words { SameWords self.old self.new }
+        ensures same_held { self.new.held ≡ self.old.held }
+        ensures raised { self.new.words.now ≡ first_raised time self.old.words.now self.old.held }
+    {
+        if self.held.count != 0 {
+            let place = SPAN_WORDS * self.place(0);
+            self.words[place] = self.words[place].max(time);
+        }
+    }
+
+    // How many spans from the first on ended before the time.
+    #[tactic(auto, using(crate::proofs::ClipLaws::ended_more, crate::proofs::ClipLaws::ended_stop, crate::proofs::ClipLaws::ended_none))]
+    fn ended(&self, time: u64) -> usize
+        ensures { result ≡ ended_count time (spans_of self.now) }
+    {
+        for i in 0..self.held.count {
+            if time <= self.words[SPAN_WORDS * self.place(i) + 1] {
+                return i;
+            }
+        }
+        self.held.count
+    }
+
+    // The span is joined in: it extends the last span held where the two touch or overlap, otherwise it follows it.
+    fn join(&mut self, span: Span)
+        ensures same_words { SameWords self.old self.new }
+        ensures joined { RingWritten self.old self.new (fitting self.old.words.now (join (span_in span) (spans_of self.old))) }
+    {
+        if self.held.count == 0 {
+            self.append(span);
+            return;
+        }
+        let last = self.held.count - 1;
+        let place = SPAN_WORDS * self.place(last);
+        if past_by(self.words[place + 1], 2, span.first) {
+            self.append(span);
+        } else {
+            self.words[place + 1] = span.last;
+        }
+    }
+
+    // The span is written after those held, if there is room.
+    fn append(&mut self, span: Span)
+        ensures same_words { SameWords self.old self.new }
+        ensures appended { RingWritten self.old self.new (fitting self.old.words.now (spans_of self.old ++ (span_in span ∷ []))) }
+    {
+        if places(self.words.len()) <= self.held.count {
+            return;
+        }
+        let after = self.held.count;
+        let place = SPAN_WORDS * self.place(after);
+        self.words[place] = span.first;
+        self.words[place + 1] = span.last;
+        self.held.count += 1;
+    }
+
+    // Where the i-th span from the first place on stands, or would.
+    #[tactic(auto, using(crate::proofs::RoundLaws::place_fits))]
+    fn place(&self, i: usize) -> usize
+        requires { i < places_in self.now }
+        ensures at { result ≡ place_at (places_in self.now) self.now.held.first i }
+        ensures inside { span_words * (result + 1) ≤ length self.now.words.now }
+    {
+        place_at(places(self.words.len()), self.held.first, i)
+    }
 }

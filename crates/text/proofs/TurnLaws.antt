@@ -1,134 +1,78 @@
--- What a line brings, from what was read of it and what the monitor answered.
-use mathlib.Core.List.{List, [], ◌∷◌, append_assoc}
+-- What a line brings, from what the monitor answered; and no line brings more rows than a table may have.
+use mathlib.Core.List.{List}
 use mathlib.Core.Option.{none}
 use mathlib.Core.Path.{◌≡◌, sym, ap, ◌∙◌}
-use Prim.Native.Nat.{ℕ, ◌+◌, ◌≤◌, ◌<◌, min}
-use native.Mathlib.Nat.{min-eq_left, min-eq_right, le_of_lt}
+use Prim.Native.Nat.{ℕ, ◌≤◌, ◌<◌}
 use native.Mathlib.Omega.{arith}
-use borrow.Author.Tests.{leb-false, ltb-true, ltb-false}
-use lib.Dec.{leb, ltb, eqb}
-use native.Mathlib.Numerals.{add-one, add-two, add-three, add-four}
-use lib.ListN.{length, take, drop, set}
-use lib.Seq.{sets-eq, take_all}
-use Rattle.rules.specs.Limits.{row_limit, row_numbers}
+use borrow.Author.Tests.{leb-false}
+use lib.Dec.{leb, eqb}
+use Rattle.std.specs.Prelude.{Option, Some, None, Result, Ok, Err}
+use Rattle.rules.specs.Limits.{row_limit}
 use Rattle.refusals.specs.Refusals.{refused}
 use Rattle.refusals.specs.declared.refusal.Refusal.{Refusal}
-use Rattle.lines.specs.Digits.{byte_at, overwritten}
+use Rattle.lines.specs.Digits.{byte_at}
 use Rattle.lines.specs.Line.{line_feed}
-use Rattle.lines.specs.Rule.{rule_widths}
-use Rattle.lines.specs.ListLine.{list_marked, read_list, numbers_of, list_of, list_found, ReadsList}
-use Rattle.row_list.specs.declared.list.RowList.{RowList}
-use Rattle.row_list.specs.RowList.{list_limit}
+use Rattle.lines.specs.ListLine.{list_marked, read_list, ReadsList}
 use Rattle.lines.specs.Read as read
-use Rattle.lines.specs.declared.list.ListRead.{ListRead}
-use Rattle.lines.specs.declared.list.ListFound.{ListFound}
-use Rattle.soundness.specs.Record.{clock_of}
+use Rattle.lines.specs.declared.read.Read as Code
+use Rattle.row_list.specs.declared.list.RowList.{RowList}
+use Rattle.row_list.specs.RowList.{numbers_of}
+use Rattle.lines.specs.Rule.{rule_widths}
+use Rattle.soundness.specs.declared.record.Record.{Record}
 use Rattle.soundness.specs.Setup.{Setup}
 use Rattle.monitor.specs.Start.{start_of, StartGives}
-use Rattle.monitor.specs.Step.{said, said_step, frame}
-use Rattle.monitor.specs.declared.answer.StartAnswer.TheVariants as StartAnswer
-use Rattle.monitor.specs.declared.answer.Started.{Started}
-use Rattle.monitor.specs.declared.answer.Judged.{Judged}
+use Rattle.monitor.proofs.StartLaws.{start-need}
+use Rattle.text.specs.declared.replies.Reply.{Reply}
+use Rattle.text.specs.declared.replies.Reply.TheVariants.{Need}
 use Rattle.text.specs.declared.state.Part.{Part}
 use Rattle.text.specs.declared.state.Part.TheVariants.{Rules, Listed, Frames, Over}
 use Rattle.text.specs.declared.state.Stage.{Stage}
-use Rattle.text.specs.declared.turn.Told.{Told}
-use Rattle.text.specs.Replies.{need_line, refused_line, Wrote}
-use Rattle.text.specs.Transcript.{frame_judged, reply_of}
-use Rattle.text.specs.Turn.{Desk, Turn, desk, setup_with, running_at, staged, Turned}
-use Rattle.text.specs.Turn.{rule_turn, list_turn, empty_turn, before_list, after_list, frame_turn, turn_in, line_turn}
+use Rattle.text.specs.Replies.{refused_line}
+use Rattle.text.specs.Turn.{Desk, Turn, desk, staged, setup_with, refusing, Turned}
+use Rattle.text.specs.Turn.{rule_turn, list_turn, empty_turn, before_list, after_list, turn_in, line_turn}
 use Rattle.meaning.proofs.Truths.{by_test}
-use Rattle.monitor.proofs.StartLaws.{start-need}
-use Rattle.text.proofs.WroteLaws.{wrote_none}
 
--- What was read is what was found.
-pub read_found : {F : Type 0} (found : F → read.LineReply) (r : F) (next : ℕ) (given : read.Read) (f : F)
-    → record { said = found r; next = next } ≡ given → r ≡ f → given.said ≡ found f
-read_found found r next given f is known = sym (ap (λ (x : read.Read). x.said) is) ∙ ap found known
+-- What brings the same from another stage is turned the same.
+pub turned_as : (brings other : Desk → Turn) (stage stage-o : Stage) (table store : List ℕ)
+    (stage' : Stage) (table' store' : List ℕ) (reply : Option Reply)
+    → Turned other stage-o table store stage' table' store' reply
+    → brings (desk stage table store) ≡ other (desk stage-o table store)
+    → Turned brings stage table store stage' table' store' reply
+turned_as brings other stage stage-o table store stage' table' store' reply turned same =
+    record { left = rw same turned.left; text = rw same turned.text }
 
-pub list-found : (line : List ℕ) (r : ListRead) (f : ListFound) → ReadsList line 0 r → r.found ≡ f
-    → (read_list line 0).said ≡ list_found f (numbers_of r.list)
-list-found line r f reads =
-    read_found (λ (found : ListFound). list_found found (numbers_of r.list)) r.found r.next (read_list line 0) f reads.said
+-- What is read of a list line is what was found.
+module _ (line : List ℕ) (r : Code.Read RowList) (reads : ReadsList line 0 r) where
+  pub list-at_end : r.found ≡ None → (read_list line 0).said ≡ read.at_end
+  list-at_end is = sym (ap (λ (x : read.Read). x.said) reads.said) ∙ ap (read.found_said numbers_of) is
 
--- Nothing changes, and nothing is written.
-pub turned_nothing : (brings : Desk → Turn) (stage : Stage) (table store out : List ℕ) (place : ℕ)
-    → brings (desk stage table store) ≡ record { left = desk stage table store; text = [] }
-    → Turned brings stage table store out place (record { stage = stage; place = place }) table store out
-turned_nothing brings stage table store out place nothing = record { left = rw nothing; wrote = rw nothing (wrote_none out place) }
+  pub list-refused : (found : Result RowList Refusal) (fault : Refusal) → r.found ≡ Some found → found ≡ Err fault
+      → (read_list line 0).said ≡ read.bad_line (refused fault)
+  list-refused found fault is refusal =
+      sym (ap (λ (x : read.Read). x.said) reads.said)
+      ∙ ap (read.found_said numbers_of) is
+      ∙ ap (λ (f : Result RowList Refusal). read.found_said numbers_of (Some f)) refusal
 
--- What brings the same is turned the same.
-pub turned_as : (brings other : Desk → Turn) (stage : Stage) (table store out : List ℕ) (place : ℕ) (told : Told) (table' store' after : List ℕ)
-    → Turned other stage table store out place told table' store' after
-    → brings (desk stage table store) ≡ other (desk stage table store)
-    → Turned brings stage table store out place told table' store' after
-turned_as brings other stage table store out place told table' store' after turned same =
-    record { left = rw same turned.left; wrote = rw same turned.wrote }
-
--- Five numbers stored one after the other.
-pub row_stored : (table : List ℕ) (place kind x y a b : ℕ) → place + row_numbers ≤ length table
-    → set (set (set (set (set table place kind) (place + 1) x) (place + 2) y) (place + 3) a) (place + 4) b
-    ≡ overwritten table place (kind ∷ x ∷ y ∷ a ∷ b ∷ [])
-row_stored table place kind x y a b room =
-    let row : List ℕ = kind ∷ x ∷ y ∷ a ∷ b ∷ [] in
-    rw (add-one place, add-two place, add-three place, add-four place)
-    (sets-eq row table place room ∙ append_assoc (take place table) row (drop (place + row_numbers) table))
-
--- A good list line.
-pub list-kept : (stage : Stage) (table store out : List ℕ) (place : ℕ) (list : RowList) (given : List ℕ) → list ≡ list_of given
-    → Turned (list_turn (read.good_line given)) stage table store out place
-    (record { stage = staged Listed stage.rows list stage.found; place = place }) table store out
-list-kept stage table store out place list given is = record { left = rw is; wrote = wrote_none out place }
-
--- The numbers that are lent of a list are those that it counts, whatever it counts.
-pub numbers_lent : (list : RowList) → length list.rows ≡ list_limit → take (min list.count list_limit) list.rows ≡ numbers_of list
-numbers_lent list size =
-    by_test (ltb list.count list_limit)
-    (λ below. let few : list.count < list_limit = ltb-true _ _ below in rw (min-eq_left (le_of_lt few)))
-    (λ past.
-    let many : list_limit ≤ list.count = ltb-false _ _ past in
-    rw (min-eq_right many) (take_all list_limit list.rows (omega arith) ∙ sym (take_all list.count list.rows (omega arith))))
-
-module _ (stage : Stage) (list : RowList) (table store out : List ℕ) (place next : ℕ) (after : List ℕ) where
-  -- What the monitor starts on.
+-- What the empty line brings, from what the start answered.
+module _ (stage : Stage) (table store : List ℕ) (answer : Result ℕ Refusal) (given : Record) (store' : List ℕ) where
   abbrev setup : Setup
-  setup = setup_with list (desk stage table store)
+  setup = setup_with stage.list (desk stage table store)
 
-  pub start-good : (s : Started) (store' : List ℕ) (need : ℕ) → StartGives setup store s store' → s.answer ≡ StartAnswer.Good need
-      → Wrote out place (need_line need) next after
-      → Turned (empty_turn list) stage table store out place
-      (record { stage = staged Frames stage.rows list s.record; place = next }) table store' after
-  start-good s store' need is good wrote =
-      let started : (start_of setup store).refusal ≡ none = rw (← is, good) in
-      let answered : (start_of setup store).need ≡ need = rw (← is, good) in
-      record {
-        left = rw (← is, good);
-        wrote = rw (started, ← start-need setup store started, answered) wrote;
-      }
+  pub start-good : StartGives setup store answer given store' → (need : ℕ) → answer ≡ Ok need
+      → Turned (λ d. empty_turn d.stage.list d) stage table store
+      (staged Frames stage.rows stage.list given) table store' (Some (Need need))
+  start-good gives need good =
+      let started : (start_of setup store).refusal ≡ none = rw (← gives, good) in
+      let answered : (start_of setup store).need ≡ need = rw (← gives, good) in
+      record { left = rw (← gives, good); text = rw (started, ← start-need setup store started, answered) }
 
-  pub start-refused : (s : Started) (store' : List ℕ) (fault : Refusal) → StartGives setup store s store'
-      → s.answer ≡ StartAnswer.Refused fault
-      → Wrote out place (refused_line (refused fault)) next after
-      → Turned (empty_turn list) stage table store out place
-      (record { stage = staged Over stage.rows list s.record; place = next }) table store' after
-  start-refused s store' fault is refusal wrote = record { left = rw (← is, refusal); wrote = rw (← is, refusal) wrote }
-
--- What a frame's answer brings.
-module _ (stage : Stage) (table store out : List ℕ) (place next : ℕ) (after : List ℕ) where
-  pub frame-told : (counter mask : ℕ) (j : Judged) (store' : List ℕ)
-      → said_step j store' ≡ frame_judged (running_at (desk stage table store)) (frame counter mask)
-      → Wrote out place (reply_of (clock_of j.record) (said j.answer)) next after
-      → Turned (frame_turn (read.good_line (counter ∷ mask ∷ []))) stage table store out place
-      (record { stage = staged Frames stage.rows stage.list j.record; place = next }) table store' after
-  frame-told counter mask j store' is wrote = record { left = rw (← is); wrote = rw (← is) wrote }
-
--- The part of the text decides.
-pub turned_in : (part : Part) (line : List ℕ) (stage : Stage) (table store out : List ℕ) (place : ℕ) (told : Told) (table' store' after : List ℕ)
-    → stage.part ≡ part
-    → Turned (turn_in part line) stage table store out place told table' store' after
-    → Turned (line_turn line) stage table store out place told table' store' after
-turned_in part line stage table store out place told table' store' after is turned =
-    turned_as (line_turn line) (turn_in part line) stage table store out place told table' store' after turned (rw is)
+  pub start-refused : StartGives setup store answer given store' → (fault : Refusal) → answer ≡ Err fault
+      → (stage' : Stage) (reply : Option Reply)
+      → Turned (λ d. refusing d (refused_line (refused fault))) (staged stage.part stage.rows stage.list given) table store'
+      stage' table store' reply
+      → Turned (λ d. empty_turn d.stage.list d) stage table store stage' table store' reply
+  start-refused gives fault refusal stage' reply turned =
+      record { left = turned.left ∙ rw (← gives, refusal); text = turned.text ∙ rw (← gives, refusal) }
 
 -- No line brings more rows than a table may have.
 rule-rows : (d : Desk) (given : read.LineReply) → d.stage.rows < row_limit → (rule_turn given d).left.stage.rows ≤ row_limit

@@ -1,62 +1,70 @@
--- Lines written one after the other.
+-- Texts written one after the other, and into a part of the output.
 use mathlib.Core.Bool.{Bool, true}
-use mathlib.Core.List.{List, [], ◌∷◌, ◌++◌}
+use mathlib.Core.List.{List, [], ◌++◌, append-nil}
 use mathlib.Core.Path.{◌≡◌, refl, sym, ap, ◌∙◌}
-use Prim.Native.Nat.{ℕ, ◌+◌, ◌≤◌, ◌<◌}
+use Prim.Native.Nat.{ℕ, ◌+◌, ◌-◌, ◌≤◌}
 use native.Mathlib.Omega.{arith}
 use borrow.Author.Tests.{le-leb}
+use borrow.Rule.Slice.PartMut.{put_mid}
 use lib.Dec.{leb}
-use lib.ListN.{length, take, set, length-append, replicate-append-replicate}
+use lib.ListN.{length, take, drop, length-append, drop_of_length-le}
+use lib.Seq.{drop-drop}
+use Rattle.std.specs.List.{between}
+use Rattle.std.proofs.lemmas.Slice.{between_to_end}
 use Rattle.lines.specs.Digits.{digits, overwritten, DigitsWritten}
 use Rattle.lines.proofs.WriteLaws.{length_digits}
-use Rattle.text.specs.Replies.{Wrote, reply_line, hyphen, hyphens}
-use Rattle.lines.proofs.OverLaws.{take_over, over_over, over_none, over_one, over_fits}
+use Rattle.lines.proofs.OverLaws.{take_over, over_over, over_none}
+use Rattle.text.specs.Replies.{Wrote, reply_line}
 
-pub wrote-more : (out : List ℕ) (place : ℕ) (first : List ℕ) (between : ℕ) (middle : List ℕ) (second : List ℕ) (next : ℕ) (after : List ℕ)
-    → place ≤ length out → Wrote out place first between middle → Wrote middle between second next after
-    → Wrote out place (first ++ second) next after
-wrote-more out place first between middle second next after within w v =
-    let at : between ≡ place + length first = w.place_after in
-    let on : next ≡ between + length second = v.place_after in
+pub wrote-more : (out first : List ℕ) (place : ℕ) (middle second : List ℕ) (size : ℕ) (after : List ℕ)
+    → Wrote out first place middle
+    → length second ≡ size
+    → after ≡ overwritten middle place second
+    → Wrote out (first ++ second) (place + size) after
+wrote-more out first place middle second size after w same more =
+    let at : place ≡ 0 + length first = w.count ∙ omega arith in
     record {
-      place_after = rw length-append (omega arith);
-      bytes = v.bytes ∙ rw (w.bytes, at) (over_over out place within first second);
+      count = rw length-append (omega arith);
+      bytes = more ∙ rw (w.bytes, at) (over_over out 0 (omega arith) first second);
     }
 
-pub wrote_none : (out : List ℕ) (place : ℕ) → Wrote out place [] place out
-wrote_none out place = record { place_after = omega arith; bytes = rw (over_none out place) }
+pub wrote_none : (out : List ℕ) → Wrote out [] 0 out
+wrote_none out = record { count = refl; bytes = rw (over_none out 0) }
 
-pub wrote-digits : (out : List ℕ) (place n value : ℕ) (done : Bool) (after : List ℕ)
-    → place + n ≤ length out → DigitsWritten out place n value done after → Wrote out place (digits n value) (place + n) after
-wrote-digits out place n value done after room w =
+pub over-digits : (out : List ℕ) (place n value : ℕ) (done : Bool) (after : List ℕ)
+    → place + n ≤ length out → DigitsWritten out place n value done after → after ≡ overwritten out place (digits n value)
+over-digits out place n value done after room w =
     let fits : leb (place + n) (length out) ≡ true = le-leb _ _ room in
-    record { place_after = rw length_digits; bytes = w.bytes ∙ rw fits }
+    w.bytes ∙ rw fits
 
-pub wrote_byte : (out : List ℕ) (place byte : ℕ) → place < length out → Wrote out place (byte ∷ []) (place + 1) (set out place byte)
-wrote_byte out place byte within = record { place_after = refl; bytes = over_one out place byte within }
+pub wrote-digits : (out : List ℕ) (n value : ℕ) (done : Bool) (after : List ℕ)
+    → n ≤ length out → DigitsWritten out 0 n value done after → Wrote out (digits n value) n after
+wrote-digits out n value done after room w =
+    record { count = sym (length_digits n value); bytes = over-digits out 0 n value done after (omega arith) w }
 
--- One hyphen more.
-pub wrote-hyphen : (before : List ℕ) (place done : ℕ) (out : List ℕ) → place ≤ length before → place + done < length out
-    → Wrote before place (hyphens done) (place + done) out
-    → Wrote before place (hyphens (done + 1)) (place + (done + 1)) (set out (place + done) hyphen)
-wrote-hyphen before place done out within room w =
-    let on : place + (done + 1) ≡ place + done + 1 = omega arith in
-    rw (on, ← replicate-append-replicate done 1 hyphen)
-    (wrote-more before place _ (place + done) out _ _ _ within w (wrote_byte out (place + done) hyphen room))
+-- A part of the output, as long as what it now holds.
+pub over_part : (out : List ℕ) (place size : ℕ) (bytes : List ℕ) → length bytes ≡ size
+    → put_mid place size out bytes ≡ overwritten out place bytes
+over_part out place size bytes is = rw (← is) (ap (λ (l : List ℕ). take place out ++ (bytes ++ l)) (drop-drop (length bytes) place out))
+
+-- What is left of the output from a place on, of which the text is the beginning.
+pub over_rest : (out : List ℕ) (place : ℕ) (text part : List ℕ)
+    → place ≤ length out
+    → part ≡ overwritten (between place (length out) out) 0 text
+    → put_mid place (length out - place) out part ≡ overwritten out place text
+over_rest out place text part within is =
+    let whole : between place (length out) out ≡ drop place out = between_to_end out place (length out) (omega arith) in
+    let none : drop (length out - place) (drop place out) ≡ [] =
+    drop-drop (length out - place) place out ∙ drop_of_length-le out {i = place + (length out - place)} (omega arith) in
+    let start : 0 + length text ≡ length text = omega arith in
+    rw (is, whole, none, append-nil, drop-drop, start)
 
 pub length_reply : (n first m second : ℕ) → length (reply_line n first m second) ≡ n + m + 1
 unfolding reply_line
 length_reply n first m second = simp (length-append, length_digits) (omega arith)
 
--- What was written from the start fits, where the output kept its length: for callers that pass it on.
-pub wrote-fits : (out line : List ℕ) (next : ℕ) (after : List ℕ) → Wrote out 0 line next after → length after ≡ length out → next ≤ length after
-wrote-fits out line next after w same =
-    let at : next ≡ 0 + length line = w.place_after in
-    let fits : 0 + length line ≤ length out = over_fits out 0 (omega arith) line (sym (ap length w.bytes) ∙ same) in
-    omega arith
-
--- And the output then begins with it.
-pub wrote-begins : (out line : List ℕ) (next : ℕ) (after : List ℕ) → Wrote out 0 line next after → take (length line) after ≡ line
-wrote-begins out line next after w =
-    let on : length line ≡ 0 + length line = omega arith in
-    rw w.bytes (ap (λ (n : ℕ). take n (overwritten out 0 line)) on ∙ take_over out 0 (omega arith) line)
+-- The output begins with what was written: for callers that pass it on.
+pub wrote-begins : (out text : List ℕ) (wrote : ℕ) (after : List ℕ) → Wrote out text wrote after → take (length text) after ≡ text
+wrote-begins out text wrote after w =
+    let on : length text ≡ 0 + length text = omega arith in
+    rw w.bytes (ap (λ (n : ℕ). take n (overwritten out 0 text)) on ∙ take_over out 0 (omega arith) text)

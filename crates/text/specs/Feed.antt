@@ -1,8 +1,10 @@
 -- A text as it arrives: what a byte brings, what a piece brings as far as the output's room allows, and what the text's end brings.
 use Rattle.std.specs.Prelude.{Bool, cond, ◌&&◌, List, [], ◌∷◌, ◌++◌, ◌≡◌, ℕ, ◌+◌, ◌-◌, ◌*◌, leb, ltb, eqb, length, replicate}
+use Rattle.std.specs.Prelude.{Option, Some, None}
 use Rattle.rules.specs.Limits.{row_limit, row_numbers}
 use Rattle.refusals.specs.Refusals.{refused, number_of}
 use Rattle.refusals.specs.declared.refusal.Refusal.TheVariants.{Length, BadLine, RowList}
+use Rattle.lines.specs.Digits.{overwritten}
 use Rattle.lines.specs.Line.{line_feed}
 use Rattle.lines.specs.ListLine.{list_marked, list_of}
 use Rattle.soundness.specs.Record.{nothing_seen}
@@ -11,7 +13,6 @@ use Rattle.text.specs.declared.state.Part.{Part}
 use Rattle.text.specs.declared.state.Part.TheVariants.{Rules, Listed, Frames, Over}
 use Rattle.text.specs.declared.state.State.{State}
 use Rattle.text.specs.declared.feed.Fed.{Fed}
-use Rattle.text.specs.declared.feed.Finished.{Finished}
 use Rattle.text.specs.Replies.{refusal_line, refused_line, longest_reply, Wrote}
 use Rattle.text.specs.Held.{line_limit, held_line, holding, emptied}
 use Rattle.text.specs.Turn.{Desk, Turn, staged, line_turn}
@@ -93,13 +94,22 @@ text_end state = end_text state.stage.part state.stage.rows (held_line state.hel
 abbrev pub step_fed : State → (table store piece out : List ℕ) → Feeding
 step_fed state table store piece out = piece_fed (memory_of state table store) (length out) piece
 
--- A step as the code has it: the state is handed back, what is lent is left, and the text is written from the output's start.
-pub record Stepped (state : State) (table store piece out : List ℕ) (fed : Fed) (table' store' after : List ℕ) : Type 0 where
-  pub left : memory_of fed.state table' store' ≡ (step_fed state table store piece out).left
-  pub used : fed.used ≡ (step_fed state table store piece out).used
-  pub wrote : Wrote out 0 (step_fed state table store piece out).text fed.wrote after
+-- A byte as the code has it: the state and what is lent are left, and the text is written from the output's start.
+pub record ByteTaken
+    (byte : ℕ) (state : State) (table store out : List ℕ)
+    (state' : State) (table' store' : List ℕ) (wrote : ℕ) (after : List ℕ) : Type 0 where
+  pub left : memory_of state' table' store' ≡ byte_leaves (memory_of state table store) byte
+  pub written : Wrote out (byte_text (memory_of state table store) byte) wrote after
 
--- The text's end writes where there is room for the longest line; otherwise nothing.
-pub record Ended (text out : List ℕ) (finished : Finished) (after : List ℕ) : Type 0 where
-  pub done : finished.done ≡ leb longest_reply (length out)
-  pub wrote : Wrote out 0 (cond (leb longest_reply (length out)) text []) finished.wrote after
+-- A step as the code has it.
+pub record Stepped
+    (state : State) (table store piece out : List ℕ)
+    (state' : State) (table' store' : List ℕ) (fed : Fed) (after : List ℕ) : Type 0 where
+  pub left : memory_of state' table' store' ≡ (step_fed state table store piece out).left
+  pub used : fed.used ≡ (step_fed state table store piece out).used
+  pub wrote : Wrote out (step_fed state table store piece out).text fed.wrote after
+
+-- The text's end writes where there is room for the longest line, and says how many bytes; otherwise nothing.
+pub record Ended (text out : List ℕ) (wrote : Option ℕ) (after : List ℕ) : Type 0 where
+  pub count : wrote ≡ cond (leb longest_reply (length out)) (Some (length text)) None
+  pub bytes : after ≡ cond (leb longest_reply (length out)) (overwritten out 0 text) out

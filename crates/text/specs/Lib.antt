@@ -2,6 +2,7 @@
 -- it is come by while the text arrives; that the two agree is proved in the crate text_promises.
 pub mod Replies
 pub mod Transcript
+pub mod Reply
 pub mod Held
 pub mod Turn
 pub mod Feed

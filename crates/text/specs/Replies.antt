@@ -49,7 +49,7 @@ refused_line fault = refusal_line fault.number (row_in fault)
 abbrev pub longest_reply : ℕ
 longest_reply = time_digits + verdict_digits + 1
 
--- A line is written at a place, over what is there; the next place is the one after it.
-pub record Wrote (out : List ℕ) (place : ℕ) (line : List ℕ) (next : ℕ) (after : List ℕ) : Type 0 where
-  pub place_after : next ≡ place + length line
-  pub bytes : after ≡ overwritten out place line
+-- A text is written from the output's start, over what is there; how many bytes it has.
+pub record Wrote (out text : List ℕ) (wrote : ℕ) (after : List ℕ) : Type 0 where
+  pub count : wrote ≡ length text
+  pub bytes : after ≡ overwritten out 0 text

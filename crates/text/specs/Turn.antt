@@ -1,6 +1,7 @@
 -- What a whole line brings, by the part of the text that it stands in: what it leaves of the state, the table and the store that are lent, and
 -- what is written (document 01, "The program's text"; document 02, E4).
 use Rattle.std.specs.Prelude.{cond, List, [], ◌≡◌, ℕ, ◌+◌, ◌*◌, ◌≤◌, leb, eqb, length, take}
+use Rattle.std.specs.Prelude as std
 use Rattle.std.proofs.Math.Option.{Option, none, some}
 use Rattle.rules.specs.Limits.{row_limit, row_numbers}
 use Rattle.refusals.specs.Refusals.{Refused, refused}
@@ -11,17 +12,19 @@ use Rattle.lines.specs.Line.{line_feed}
 use Rattle.lines.specs.Read.{LineReply, at_end, good_line}
 use Rattle.lines.specs.Read as read
 use Rattle.lines.specs.Frame.{read_frame}
-use Rattle.lines.specs.ListLine.{list_marked, read_list, numbers_of, list_of}
+use Rattle.lines.specs.ListLine.{list_marked, read_list, list_of}
 use Rattle.lines.specs.Rule.{read_rule}
 use Rattle.row_list.specs.declared.list.RowList.{RowList}
+use Rattle.row_list.specs.RowList.{numbers_of}
 use Rattle.soundness.specs.declared.record.Record.{Record}
 use Rattle.soundness.specs.Setup.{Setup, setup_of}
 use Rattle.monitor.specs.Start.{Beginning, start_of}
 use Rattle.text.specs.declared.state.Part.{Part}
 use Rattle.text.specs.declared.state.Part.TheVariants.{Rules, Listed, Frames, Over}
 use Rattle.text.specs.declared.state.Stage.{Stage}
-use Rattle.text.specs.declared.turn.Told.{Told}
-use Rattle.text.specs.Replies.{need_line, refusal_line, refused_line, longest_reply, Wrote}
+use Rattle.text.specs.declared.replies.Reply.{Reply}
+use Rattle.text.specs.Replies.{need_line, refusal_line, refused_line}
+use Rattle.text.specs.Reply.{text_of}
 use Rattle.text.specs.Transcript.{Running, frame_reply, frame_leaves, last_row}
 
 -- What there is between two lines: the stage, and what is lent.
@@ -39,11 +42,10 @@ pub record Turn : Type 0 where
 abbrev pub rows_read : Desk → List ℕ
 rows_read d = take (d.stage.rows * row_numbers) d.table
 
--- The stage of so many rows fits the table that is lent, and the longest line fits the output at a place.
-pub record Room (stage : Stage) (table out : List ℕ) (place : ℕ) : Type 0 where
+-- The stage of so many rows fits the table that is lent.
+pub record Room (stage : Stage) (table : List ℕ) : Type 0 where
   pub rows : stage.rows ≤ row_limit
   pub numbers : row_limit * row_numbers ≤ length table
-  pub output : place + longest_reply ≤ length out
 
 abbrev pub desk : Stage → List ℕ → List ℕ → Desk
 desk stage table store = record { stage = stage; table = table; store = store }
@@ -141,10 +143,10 @@ turn_in Over line d = record { left = d; text = [] }
 abbrev pub line_turn : List ℕ → Desk → Turn
 line_turn line d = turn_in d.stage.part line d
 
--- What a line brings, as the code has it: the stage is handed back, what is lent is left, and the text is written at a place of the output.
+-- What a line brings, as the code has it: the stage and what is lent are left, and the text is told.
 pub record Turned
     (brings : Desk → Turn)
-    (stage : Stage) (table store out : List ℕ) (place : ℕ)
-    (told : Told) (table' store' after : List ℕ) : Type 0 where
-  pub left : desk told.stage table' store' ≡ (brings (desk stage table store)).left
-  pub wrote : Wrote out place (brings (desk stage table store)).text told.place after
+    (stage : Stage) (table store : List ℕ)
+    (stage' : Stage) (table' store' : List ℕ) (reply : std.Option Reply) : Type 0 where
+  pub left : desk stage' table' store' ≡ (brings (desk stage table store)).left
+  pub text : text_of reply ≡ (brings (desk stage table store)).text

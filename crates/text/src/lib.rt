@@ -1,5 +1,5 @@
-// The program's text (document 01): which line follows which, the lines that are written, and what a text that is still arriving needs.
-// Owns nothing but a state that is handed in and back: table, store, text and output are lent.
+// The program's text (document 01, "The program's text"): which line follows which, the lines that are written, and what a text that is still arriving
+// needs. Owns nothing: state, table, store, text and output are lent.
 
 #![tactic(auto)]
 

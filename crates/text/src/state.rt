@@ -1,8 +1,8 @@
 // What is kept of a text that is still arriving: the bytes of one unfinished line, the part of the text that it stands in, and the monitor's
-// record. It is handed in and back, and its size is fixed: a line of any length needs no more.
+// record. Its size is fixed: a line of any length needs no more.
 
-ghost use Rattle.std.specs.Prelude.{◌≡◌, min};
-ghost use Rattle.text.specs.Held.{line_limit, holding, emptied};
+ghost use Rattle.std.specs.Prelude.{◌≡◌};
+ghost use Rattle.text.specs.Held.{held_line, holding, emptied};
 ghost use Rattle.text.specs.Feed.{fresh};
 
 use lines::list::LINE_BYTES;
@@ -12,14 +12,42 @@ use soundness::record::{Record, nothing_seen};
 // No good line is longer than a list line of the most row numbers, with its line feed.
 pub const LINE_LIMIT: usize = LINE_BYTES;
 
-// The first bytes of an unfinished line. Of a line that is longer than any good one no more is held.
+// The first bytes of an unfinished line. Of a line that is longer than any good one no more is held. An array and a count: no heap, and an answer
+// for every count, one past the limit too.
 #[derive(Clone, Copy)]
 pub struct Held {
     pub bytes: [u8; LINE_LIMIT],
     pub count: usize,
 }
 
-#[derive(Clone, Copy)]
+impl Held {
+    // One byte more of the line.
+    #[tactic(auto, unfolding(crate::specs::Held::holding))]
+    pub(crate) fn push(&mut self, byte: u8)
+        ensures { self.new ≡ holding self.old byte }
+    {
+        if self.count < LINE_LIMIT {
+            self.bytes[self.count] = byte;
+            self.count += 1;
+        }
+    }
+
+    // The line has ended, and the next one begins.
+    pub(crate) fn clear(&mut self)
+        ensures { self.new ≡ emptied self.old }
+    {
+        self.count = 0;
+    }
+
+    // The line as far as it is held.
+    pub(crate) fn line(&self) -> &[u8]
+        ensures { result.now ≡ held_line self.now }
+    {
+        &self.bytes[..self.count.min(LINE_LIMIT)]
+    }
+}
+
+#[derive(Clone, Copy, Debug, PartialEq, Eq)]
 pub enum Part {
     // Rule lines, up to the list line or the empty line.
     Rules,
@@ -48,6 +76,7 @@ pub struct State {
 }
 
 // The state before the first byte of a text.
+#[tactic(auto, unfolding(crate::specs::Feed::fresh))]
 pub fn fresh() -> State
     ensures { result ≡ fresh }
 {
@@ -66,37 +95,4 @@ pub fn fresh() -> State
             found: nothing_seen(0),
         },
     }
-}
-
-// One byte more of the line.
-pub(crate) fn hold(held: Held, byte: u8) -> Held
-    ensures { result ≡ holding held byte }
-{
-    let count = held.count;
-    if count < LINE_LIMIT {
-        let mut now = held;
-        now.bytes[count] = byte;
-        now.count = count + 1;
-        return now;
-    }
-    held
-}
-
-// The line has ended, and the next one begins.
-pub(crate) fn empty(held: Held) -> Held
-    ensures { result ≡ emptied held }
-{
-    let mut now = held;
-    now.count = 0;
-    now
-}
-
-// How many bytes are held, for every count.
-pub(crate) fn held_length(count: usize) -> usize
-    ensures { result ≡ min count line_limit }
-{
-    if count < LINE_LIMIT {
-        return count;
-    }
-    LINE_LIMIT
 }

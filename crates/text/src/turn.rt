@@ -1,117 +1,191 @@
-// What a whole line brings, by the part of the text that it stands in (document 01, "The program's text"; document 02, E4). The line, the table, the
-// store and the output are lent; whoever calls has seen that table and output have room.
+// What a whole line brings, by the part of the text that it stands in, and what the text's end brings (document 01, "The program's text"; document 02,
+// E4). The line, the table and the store are lent; whoever calls has seen that the table has room.
 
-ghost use Rattle.std.specs.Prelude.{List, [], ◌∷◌, ◌≡◌, ℕ, ◌+◌, ◌≤◌, ◌<◌, eqb, length};
-ghost use Rattle.rules.specs.Limits.{row_limit, row_numbers};
-ghost use Rattle.lines.specs.Digits.{byte_at, overwritten};
+ghost use Rattle.std.specs.Prelude.{List, ◌≡◌, ℕ, ◌≤◌, ◌<◌, eqb};
+ghost use Rattle.rules.specs.Limits.{row_limit};
+ghost use Rattle.refusals.specs.Refusals.{refused};
+ghost use Rattle.lines.specs.Digits.{byte_at};
 ghost use Rattle.lines.specs.Line.{line_feed};
-ghost use Rattle.lines.specs.Read.{good_line};
 ghost use Rattle.lines.specs.Frame.{read_frame};
 ghost use Rattle.lines.specs.Rule.{read_rule};
 ghost use Rattle.lines.specs.ListLine.{read_list, list_of};
-ghost use Rattle.refusals.specs.Refusals.{refused};
-ghost use Rattle.text.specs.Replies.{longest_reply, refused_line};
+ghost use Rattle.text.specs.Replies.{refused_line};
+ghost use Rattle.text.specs.Reply.{line_of, text_of};
 ghost use Rattle.text.specs.Transcript.{last_row};
-ghost use Rattle.text.specs.Turn.{Room, staged, refusing, before_list, after_list, empty_turn, rule_turn, list_turn, frame_turn, line_turn, Turned};
+ghost use Rattle.text.specs.Turn.{Room, refusing, before_list, after_list, empty_turn, rule_turn, list_turn, frame_turn, line_turn, Turned};
+ghost use Rattle.text.specs.Feed.{end_text};
 ghost use Rattle.text.specs.declared.state.Part.TheVariants as Part;
 
-use crate::replies::{write_answer, write_need, write_refusal, write_refused};
+use crate::replies::Reply;
 use crate::state::{Part, Stage};
-use lines::frame::{FrameFound, read_frame};
-use lines::list::{ListFound, is_list_line, read_list};
-use lines::rule::{RuleFound, read_rule};
-use monitor::answer::StartAnswer;
+use lines::frame::read_frame;
+use lines::list::{is_list_line, read_list};
+use lines::rule::read_rule;
 use monitor::start::start;
+use monitor::step::frame;
 use refusals::refusal::Refusal;
-use row_list::list::{LIST_LIMIT, RowList, within_limit};
+use row_list::list::{LIST_LIMIT, RowList};
 use rules::limits::{ROW_LIMIT, ROW_NUMBERS};
+use soundness::setup::Setup;
 
-// The stage after the line, and the place after what was written.
-#[derive(Drop)]
-pub(crate) struct Told {
-    pub(crate) stage: Stage,
-    pub(crate) place: usize,
-}
+// Table and store stand beside the stage: a struct that held the references would have each method promise that it keeps them.
+impl Stage {
+    // A line of any part.
+    pub(crate) fn turn(
+        &mut self,
+        table: &mut [u32],
+        store: &mut [u64],
+        line: &[u8],
+    ) -> Option<Reply>
+        requires { Room self.old table.old }
+        ensures { Turned (line_turn line.now) self.old table.old store.old self.new table.new store.new result }
+    {
+        match self.part {
+            Part::Rules => self.before_list(table, store, line),
+            Part::Listed => self.after_list(table, store, line),
+            Part::Frames => self.frame_line(table, store, line),
+            Part::Over => None,
+        }
+    }
 
-// A line of any part.
-pub(crate) fn turn(
-    stage: Stage,
-    table: &mut [u32],
-    store: &mut [u64],
-    line: &[u8],
-    out: &mut [u8],
-    place: usize,
-) -> Told
-    requires { Room stage table.old out.old place }
-    ensures { Turned (line_turn line.now)
-        stage table.old store.old out.old place
-        result table.new store.new out.new }
-{
-    let part = stage.part;
-    match part {
-        Part::Rules => before_list(stage, table, store, line, out, place),
-        Part::Listed => after_list(stage, table, store, line, out, place),
-        Part::Frames => frame_line(stage, table, store, line, out, place),
-        Part::Over => Told { stage, place },
+    // What the text's end brings: a line that it cuts off is a bad line, and a text that ends before the empty line is refused.
+    pub(crate) fn end(&self, line: &[u8]) -> Option<Reply>
+        ensures { text_of result ≡ end_text self.now.part self.now.rows line.now }
+    {
+        match self.part {
+            Part::Rules => Some(end_of_rules(self.rows, line)),
+            Part::Listed if line.is_empty() => Some(Reply::from(Refusal::BadLine)),
+            Part::Listed => Some(Reply::from(Refusal::RowList)),
+            Part::Frames if line.is_empty() => None,
+            Part::Frames => Some(Reply::from(Refusal::BadLine)),
+            Part::Over => None,
+        }
     }
-}
 
-// A line among the rules: the empty line, the list line, a rule line, or a line after all the rows that a table may have.
-fn before_list(
-    stage: Stage,
-    table: &mut [u32],
-    store: &mut [u64],
-    line: &[u8],
-    out: &mut [u8],
-    place: usize,
-) -> Told
-    requires { Room stage table.old out.old place }
-    ensures { Turned (before_list line.now)
-        stage table.old store.old out.old place
-        result table.new store.new out.new }
-{
-    let rows = stage.rows;
-    if is_empty(line) {
-        return empty_line(stage, last_row(rows), table, store, out, place);
+    // A line among the rules: the empty line, the list line, a rule line, or a line after all the rows that a table may have.
+    #[tactic(auto, unfolding(crate::specs::Turn::before_list))]
+    fn before_list(&mut self, table: &mut [u32], store: &mut [u64], line: &[u8]) -> Option<Reply>
+        requires room { Room self.old table.old }
+        requires among_rules { self.old.part ≡ Part.Rules }
+        ensures { Turned (before_list line.now) self.old table.old store.old self.new table.new store.new result }
+    {
+        if is_empty(line) {
+            self.list = last_row(self.rows);
+            return self.empty_line(table, store);
+        }
+        if is_list_line(line, 0) {
+            return self.list_line(line);
+        }
+        if ROW_LIMIT <= self.rows {
+            return self.refuse(Refusal::Length);
+        }
+        self.rule_line(table, line)
     }
-    if is_list_line(line, 0) {
-        return list_line(stage, line, out, place);
-    }
-    if ROW_LIMIT <= rows {
-        return refuse(stage, Refusal::Length, out, place);
-    }
-    rule_line(stage, table, line, out, place)
-}
 
-// A line after the list line: the empty line, or a refusal.
-fn after_list(
-    stage: Stage,
-    table: &[u32],
-    store: &mut [u64],
-    line: &[u8],
-    out: &mut [u8],
-    place: usize,
-) -> Told
-    requires { Room stage table.now out.old place }
-    ensures { Turned (after_list line.now)
-        stage table.now store.old out.old place
-        result table.now store.new out.new }
-{
-    if is_empty(line) {
-        let list = stage.list;
-        return empty_line(stage, list, table, store, out, place);
+    // A line after the list line: the empty line, or a refusal.
+    #[tactic(auto, unfolding(crate::specs::Turn::after_list))]
+    fn after_list(&mut self, table: &[u32], store: &mut [u64], line: &[u8]) -> Option<Reply>
+        requires { Room self.old table.now }
+        ensures { Turned (after_list line.now) self.old table.now store.old self.new table.now store.new result }
+    {
+        if is_empty(line) {
+            return self.empty_line(table, store);
+        }
+        self.refuse(Refusal::RowList)
     }
-    refuse(stage, Refusal::RowList, out, place)
+
+    // A refusal up to or at the empty line: nothing more is written.
+    fn refuse(&mut self, fault: Refusal) -> Option<Reply>
+        ensures { (table store : List ℕ) → Turned (λ d. refusing d (refused_line (refused fault)))
+            self.old table store self.new table store result }
+    {
+        self.part = Part::Over;
+        Some(Reply::from(fault))
+    }
+
+    // A list line is read and kept; "A list line of bad form or sum .. is EE0A00 at once".
+    fn list_line(&mut self, line: &[u8]) -> Option<Reply>
+        ensures { (table store : List ℕ) → Turned (list_turn (read_list line.now 0).said)
+            self.old table store self.new table store result }
+    {
+        match read_list(line, 0).found {
+            Some(Ok(list)) => {
+                self.part = Part::Listed;
+                self.list = list;
+                None
+            }
+            // Two arms: under one pattern for both the proof cannot tell what was read.
+            Some(Err(_)) => self.refuse(Refusal::RowList),
+            None => self.refuse(Refusal::RowList),
+        }
+    }
+
+    // A rule line is read, and its numbers follow the rows read. A bad one is refused with its line counted from 00.
+    fn rule_line(&mut self, table: &mut [u32], line: &[u8]) -> Option<Reply>
+        requires room { Room self.old table.old }
+        requires below_limit { self.old.rows < row_limit }
+        requires among_rules { self.old.part ≡ Part.Rules }
+        ensures { (store : List ℕ) → Turned (rule_turn (read_rule line.now 0).said)
+            self.old table.old store self.new table.new store result }
+    {
+        match read_rule(line, 0).found? {
+            Ok(rule) => {
+                let place = self.rows * ROW_NUMBERS;
+                let numbers = [rule.kind, rule.x, rule.y, rule.a, rule.b];
+                table[place..place + ROW_NUMBERS].copy_from_slice(&numbers);
+                self.rows += 1;
+                None
+            }
+            Err(fault) => {
+                self.part = Part::Over;
+                Some(Reply::Refused(fault, self.rows as u32))
+            }
+        }
+    }
+
+    // The empty line: the monitor starts, which checks the table and the list, and answers the need.
+    fn empty_line(&mut self, table: &[u32], store: &mut [u64]) -> Option<Reply>
+        requires { Room self.old table.now }
+        ensures { Turned (λ d. empty_turn d.stage.list d) self.old table.now store.old self.new table.now store.new result }
+    {
+        let setup = Setup {
+            table: &table[..self.rows * ROW_NUMBERS],
+            list: self.list.numbers(),
+        };
+        match start(setup, store, &mut self.found) {
+            Ok(need) => {
+                self.part = Part::Frames;
+                Some(Reply::Need(need))
+            }
+            Err(fault) => self.refuse(fault),
+        }
+    }
+
+    // A frame's line is read, and the frame is judged; the time that is written is the clock after it.
+    fn frame_line(&mut self, table: &[u32], store: &mut [u64], line: &[u8]) -> Option<Reply>
+        requires room { Room self.old table.now }
+        requires among_frames { self.old.part ≡ Part.Frames }
+        ensures { Turned (frame_turn (read_frame line.now 0).said) self.old table.now store.old self.new table.now store.new result }
+    {
+        let setup = Setup {
+            table: &table[..self.rows * ROW_NUMBERS],
+            list: self.list.numbers(),
+        };
+        match read_frame(line, 0).found? {
+            Ok(read) => match frame(setup, store, &mut self.found, read.counter, read.mask) {
+                Ok(accepted) => Some(Reply::Accepted(self.found.clock, accepted)),
+                Err(fault) => Some(Reply::from(fault)),
+            },
+            Err(fault) => Some(Reply::from(fault)),
+        }
+    }
 }
 
 // Whether a line is the empty one.
 fn is_empty(line: &[u8]) -> bool
     ensures { result ≡ eqb (byte_at line.now 0) line_feed }
 {
-    if line.len() == 0 {
-        return false;
-    }
-    line[0] == b'\n'
+    line.first() == Some(&b'\n')
 }
 
 // "no list means the last row alone"; a table of no rows is refused before its list.
@@ -120,224 +194,25 @@ fn last_row(rows: usize) -> RowList
     ensures { result ≡ list_of (last_row rows) }
 {
     let mut list = [0; LIST_LIMIT];
-    if rows == 0 {
-        return RowList {
-            rows: list,
-            count: 1,
-        };
-    }
-    list[0] = (rows - 1) as u32;
+    list[0] = rows.saturating_sub(1) as u32;
     RowList {
         rows: list,
         count: 1,
     }
 }
 
-// A refusal up to or at the empty line.
-fn refuse(stage: Stage, fault: Refusal, out: &mut [u8], place: usize) -> Told
-    requires { place + longest_reply ≤ length out.old }
-    ensures { (table store : List ℕ) → Turned (λ d. refusing d (refused_line (refused fault)))
-        stage table store out.old place
-        result table store out.new }
+// Among the rules: no line is begun, the line is a bad list line, one more than the row limit, or a bad rule line.
+fn end_of_rules(rows: usize, line: &[u8]) -> Reply
+    ensures { line_of result ≡ end_text Part.Rules rows line.now }
 {
-    Told {
-        stage: ended(stage),
-        place: write_refused(out, place, fault),
+    if line.is_empty() {
+        return Reply::from(Refusal::BadLine);
     }
-}
-
-// Nothing more is written.
-fn ended(stage: Stage) -> Stage
-    ensures { result ≡ staged Part.Over stage.rows stage.list stage.found }
-{
-    let list = stage.list;
-    let found = stage.found;
-    Stage {
-        part: Part::Over,
-        rows: stage.rows,
-        list,
-        found,
+    if is_list_line(line, 0) {
+        return Reply::from(Refusal::RowList);
     }
-}
-
-// A list line is read and kept; "A list line of bad form or sum .. is EE0A00 at once".
-fn list_line(stage: Stage, line: &[u8], out: &mut [u8], place: usize) -> Told
-    requires { place + longest_reply ≤ length out.old }
-    ensures { (table store : List ℕ) → Turned (list_turn (read_list line.now 0).said)
-        stage table store out.old place
-        result table store out.new }
-{
-    let read = read_list(line, 0);
-    let list = read.list;
-    let form = read.found;
-    let found = stage.found;
-    match form {
-        ListFound::Rows => Told {
-            stage: Stage {
-                part: Part::Listed,
-                rows: stage.rows,
-                list,
-                found,
-            },
-            place,
-        },
-        ListFound::End => refuse(stage, Refusal::RowList, out, place),
-        ListFound::Refused(_) => refuse(stage, Refusal::RowList, out, place),
+    if ROW_LIMIT <= rows {
+        return Reply::from(Refusal::Length);
     }
-}
-
-// A rule line is read, and its numbers follow the rows read.
-fn rule_line(stage: Stage, table: &mut [u32], line: &[u8], out: &mut [u8], place: usize) -> Told
-    requires room { Room stage table.old out.old place }
-    requires below_limit { stage.rows < row_limit }
-    ensures { (store : List ℕ) → Turned (rule_turn (read_rule line.now 0).said)
-        stage table.old store out.old place
-        result table.new store out.new }
-{
-    let read = read_rule(line, 0);
-    let rule = read.found;
-    let rows = stage.rows;
-    match rule {
-        RuleFound::End => Told { stage, place },
-        RuleFound::Rule { kind, x, y, a, b } => {
-            let list = stage.list;
-            let found = stage.found;
-            add_row(table, rows * ROW_NUMBERS, kind, x, y, a, b);
-            Told {
-                stage: Stage {
-                    part: Part::Rules,
-                    rows: rows + 1,
-                    list,
-                    found,
-                },
-                place,
-            }
-        }
-        RuleFound::Refused(fault) => Told {
-            stage: ended(stage),
-            place: write_refusal(
-                out,
-                place,
-                refusals::refusal::number(fault) as u64,
-                rows as u64,
-            ),
-        },
-    }
-}
-
-// The numbers of a rule, in the table's order.
-fn add_row(table: &mut [u32], place: usize, kind: u32, x: u32, y: u32, a: u32, b: u32)
-    requires { place + row_numbers ≤ length table.old }
-    ensures { table.new ≡ overwritten table.old place (kind ∷ x ∷ y ∷ a ∷ b ∷ []) }
-{
-    table[place] = kind;
-    table[place + 1] = x;
-    table[place + 2] = y;
-    table[place + 3] = a;
-    table[place + 4] = b;
-}
-
-// The empty line: the monitor starts, which checks the table and the list, and answers the need.
-fn empty_line(
-    stage: Stage,
-    list: RowList,
-    table: &[u32],
-    store: &mut [u64],
-    out: &mut [u8],
-    place: usize,
-) -> Told
-    requires { Room stage table.now out.old place }
-    ensures { Turned (empty_turn list)
-        stage table.now store.old out.old place
-        result table.now store.new out.new }
-{
-    let end = stage.rows * ROW_NUMBERS;
-    let all = &list.rows[..];
-    let started = start(&table[0..end], &all[0..within_limit(list.count)], store);
-    let answer = started.answer;
-    let found = started.record;
-    match answer {
-        StartAnswer::Good { need } => Told {
-            stage: Stage {
-                part: Part::Frames,
-                rows: stage.rows,
-                list,
-                found,
-            },
-            place: write_need(out, place, need),
-        },
-        StartAnswer::Refused(fault) => Told {
-            stage: Stage {
-                part: Part::Over,
-                rows: stage.rows,
-                list,
-                found,
-            },
-            place: write_refused(out, place, fault),
-        },
-    }
-}
-
-// A frame's line is read, and the frame is judged.
-fn frame_line(
-    stage: Stage,
-    table: &[u32],
-    store: &mut [u64],
-    line: &[u8],
-    out: &mut [u8],
-    place: usize,
-) -> Told
-    requires room { Room stage table.now out.old place }
-    requires among_frames { stage.part ≡ Part.Frames }
-    ensures { Turned (frame_turn (read_frame line.now 0).said)
-        stage table.now store.old out.old place
-        result table.now store.new out.new }
-{
-    let read = read_frame(line, 0);
-    let frame = read.found;
-    match frame {
-        FrameFound::End => Told { stage, place },
-        FrameFound::Frame { counter, mask } => {
-            judge(stage, table, store, counter, mask, out, place)
-        }
-        FrameFound::Refused(fault) => Told {
-            stage,
-            place: write_refused(out, place, fault),
-        },
-    }
-}
-
-// The monitor judges the frame; the time that is written is the clock after it.
-fn judge(
-    stage: Stage,
-    table: &[u32],
-    store: &mut [u64],
-    counter: u16,
-    mask: u32,
-    out: &mut [u8],
-    place: usize,
-) -> Told
-    requires { Room stage table.now out.old place }
-    ensures { Turned (frame_turn (good_line (counter ∷ mask ∷ [])))
-        stage table.now store.old out.old place
-        result table.now store.new out.new }
-{
-    let rows = stage.rows;
-    let end = rows * ROW_NUMBERS;
-    let list = stage.list;
-    let count = within_limit(list.count);
-    let all = &list.rows[..];
-    let found = stage.found;
-    let judged = monitor::step::frame(&table[0..end], &all[0..count], store, found, counter, mask);
-    let answer = judged.answer;
-    let left = judged.record;
-    Told {
-        stage: Stage {
-            part: Part::Frames,
-            rows,
-            list,
-            found: left,
-        },
-        place: write_answer(out, place, left.clock, answer),
-    }
+    Reply::Refused(Refusal::BadLine, rows as u32)
 }

@@ -1,4 +1,3 @@
--- Laws of gaps and masks, and of what is answered; the proofs of the functions stand in the folders beside them.
-pub mod GapLaws
+-- Laws of masks, and of what is answered.
 pub mod MaskLaws
 pub mod Outcomes

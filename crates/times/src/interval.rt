@@ -5,49 +5,48 @@ ghost use Rattle.meaning.specs.Interval.{no_end_number, end_of, ◌+End◌};
 ghost use Rattle.meaning.specs.Computed.{within?, not_past?};
 ghost use Rattle.meaning.specs.Sound.{length_of};
 
-use crate::time::{past_by, wide};
+use crate::time::past_by;
 
-// "4,294,967,295 for 'no end'".
+// "4,294,967,295 for 'no end'": a number of the table that C lends, and so a number here, with one reader, `has_no_end`.
 pub const NO_END: u32 = 4_294_967_295;
 
-// Whether b stands for no end.
-pub fn has_no_end(b: u32) -> bool
-    ensures { result ≡ (b == no_end_number) }
-{
-    b == NO_END
+#[derive(Clone, Copy, Debug, PartialEq, Eq)]
+pub struct Interval {
+    pub a: u32,
+    pub b: u32,
 }
 
-// b less a, 0 without end and where a is over b.
-pub fn length_of(a: u32, b: u32) -> u64
-    ensures { result ≡ length_of a (end_of b) }
-{
-    if has_no_end(b) {
-        return 0;
+impl Interval {
+    // Whether b stands for no end.
+    pub fn has_no_end(self) -> bool
+        ensures { result ≡ (self.b == no_end_number) }
+    {
+        self.b == NO_END
     }
-    if b < a {
-        return 0;
-    }
-    wide(b - a)
-}
 
-// Whether the whole gap from the former time to the time is in [a,b].
-pub fn within(a: u32, b: u32, former: u64, time: u64) -> bool
-    ensures { result ≡ within? a (end_of b) former time }
-{
-    if past_by(former, wide(a), time) {
-        return not_past(b, former, time);
+    // b less a, 0 without end and where a is over b.
+    #[tactic(auto, unfolding(meaning::specs::Interval::end_of))]
+    pub fn length(self) -> u64
+        ensures { result ≡ length_of self.a (end_of self.b) }
+    {
+        if self.has_no_end() {
+            return 0;
+        }
+        u64::from(self.b.saturating_sub(self.a))
     }
-    false
-}
 
-fn not_past(b: u32, former: u64, time: u64) -> bool
-    ensures { result ≡ not_past? time (former +End end_of b) }
-{
-    if has_no_end(b) {
-        return true;
+    // Whether the whole gap from the former time to the time is in [a,b].
+    pub fn holds(self, former: u64, time: u64) -> bool
+        ensures { result ≡ within? self.a (end_of self.b) former time }
+    {
+        past_by(former, u64::from(self.a), time) && self.not_past(former, time)
     }
-    if time <= former {
-        return true;
+
+    // Whether the time is not past the former time + b.
+    #[tactic(auto, unfolding(meaning::specs::Interval::end_of))]
+    fn not_past(self, former: u64, time: u64) -> bool
+        ensures { result ≡ not_past? time (former +End end_of self.b) }
+    {
+        self.has_no_end() || time.saturating_sub(former) <= u64::from(self.b)
     }
-    time - former <= wide(b)
 }

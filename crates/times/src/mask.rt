@@ -4,20 +4,15 @@ ghost use Rattle.std.specs.Prelude.{◌≡◌};
 ghost use Rattle.meaning.specs.Computed.{bit_set?};
 ghost use Rattle.meaning.specs.Heartbeat.{heartbeat?};
 
-// A mask has this many bits.
-const MASK_BITS: u32 = 32;
-
 // "a frame or event with bit 31 set only moves the clock".
 pub const HEARTBEAT_BIT: u32 = 31;
 
 // Whether bit x of the mask is set; past the last there is none.
+#[tactic(auto, using(crate::proofs::MaskLaws::bit_past))]
 pub fn bit_set(mask: u32, x: u32) -> bool
     ensures { result ≡ bit_set? x mask }
 {
-    if x < MASK_BITS {
-        return (mask >> x) % 2 == 1;
-    }
-    false
+    x < u32::BITS && (mask >> x) % 2 == 1
 }
 
 // Whether the mask is a heartbeat's, whatever its other bits.

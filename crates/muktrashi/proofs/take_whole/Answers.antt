@@ -3,4 +3,4 @@ use Rattle.muktrashi.proofs.LoopLaws.{taken-whole}
 use Rattle.muktrashi.proofs.take_whole.Goals as goal
 
 pub returns : goal.returns
-returns c = taken-whole _ _ _ _ _ _ _ _ _ c.requires c.step.ensures
+returns c = taken-whole _ _ _ _ _ _ _ _ _ _ c.requires c.step.ensures

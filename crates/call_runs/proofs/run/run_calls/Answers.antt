@@ -1,24 +1,19 @@
-use mathlib.Core.Path.{◌≡◌, refl}
+use mathlib.Core.Path.{sym, ◌∙◌}
 use native.Mathlib.Omega.{arith}
-use lib.ListN.{length-set}
-use Rattle.call_runs.specs.Turns.{turns_of}
-use Rattle.call_runs.proofs.RunLaws.{one_more}
+use lib.Seq.{drop-cons}
+use Rattle.soundness.specs.Setup.{setup_in}
+use Rattle.call_runs.proofs.RunLaws.{one_turn, ended}
 use Rattle.call_runs.proofs.run.run_calls.Goals as goal
 
-pub loop-place-init : goal.loop-place-init
-unfolding turns_of
-loop-place-init c = (omega arith, refl, refl, refl)
-
 pub loop-place-preserved : goal.loop-place-preserved
-loop-place-preserved c =
-    let turned = c.loop-place.invariant.3 in (
-      omega arith,
-      omega arith,
-      rw c.put_code.ensures (simp length-set c.loop-place.invariant.2),
-      one_more _ _ _ _ _ _ _ c.judge-judged.result _ _ turned c.call_at-call.ensures c.judge-judged.ensures c.code.ensures c.put_code.ensures,
-    )
+loop-place-preserved g c =
+    let place = c.loop-place.place in
+    let stamp = c.index-stamps-place.result in
+    let stamped = rw (← c.index-stamps-place.is) at (drop-cons c.args.stamps.now place stamp (omega arith)) in
+    one_turn (setup_in c.args.setup) g.S.Stamp.call c.args.stamps.now c.args.masks.now place _ _ _ _ c.loop-place.answers stamp _ _ _ stamped
+    (drop-cons c.args.masks.now place 0 (omega arith)) (omega arith) c.judge-answer.ensures c.code.ensures c.loop-place.invariant
 
 pub returns : goal.returns
-returns c =
-    let all : c.loop-place.place ≡ c.args.count = omega arith in
-    rw all at c.loop-place.invariant.3
+returns g c =
+    sym (ended (setup_in c.args.setup) g.S.Stamp.call c.args.stamps.now c.args.masks.now c.loop-place.place _ _ c.loop-place.answers (omega arith))
+    ∙ c.loop-place.invariant

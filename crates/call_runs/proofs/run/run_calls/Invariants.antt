@@ -1,19 +1,11 @@
--- `call_runs::run::run_calls` meets its contract. The loop's invariant: record, store and codes are those after the turns so far; one turn is `one_more`.
--- The measure is what is left to judge. Assumes nothing.
+-- `call_runs::run::run_calls` meets its contract: a run that goes on at the place leaves what the whole run does. One turn is `one_turn`. Assumes nothing.
 use mathlib.Core.Path.{◌≡◌}
-use Prim.Native.Nat.{◌-◌, ◌≤◌}
-use lib.ListN.{length}
-use Rattle.soundness.specs.Setup.{setup_of}
-use Rattle.call_runs.specs.Turns.{call_at, TurnsLeave}
+use Rattle.soundness.specs.Setup.{setup_in}
+use Rattle.call_runs.specs.Run.{run_of, calls_of}
+use Rattle.call_runs.proofs.RunLaws.{going_on}
 use Rattle.call_runs.proofs.run.run_calls.Given as goal
 
 abbrev pub invariant-loop-place : goal.invariant-loop-place
-invariant-loop-place l =
-    (l.place ≤ l.count)
-    × (length l.store ≡ length l.initial.store)
-    × (length l.answers ≡ length l.initial.answers)
-    × TurnsLeave (setup_of l.table l.list) (call_at l.times l.counters l.masks) l.initial.kept l.initial.store l.initial.answers
-    l.place l.kept l.store l.answers
-
-abbrev pub decreases-loop-place : goal.decreases-loop-place
-decreases-loop-place l = l.count - l.place
+invariant-loop-place g l =
+    going_on (setup_in l.setup) g.S.Stamp.call l.stamps l.masks l.place l.kept l.store l.answers
+    ≡ run_of (setup_in l.setup) l.initial.kept l.initial.store l.initial.answers (calls_of g.S.Stamp.call l.stamps l.masks)

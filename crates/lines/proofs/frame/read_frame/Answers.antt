@@ -1,11 +1,14 @@
--- `lines::frame::read_frame` meets its contract: what was read of the line decides, and a good line's numbers stand at their offsets,
--- of as many digits as their types hold. Assumes nothing.
-use lib.Dec.{lit≤}
-use Rattle.lines.proofs.DigitLaws.{hex_at-fits}
+-- `lines::frame::read_frame` meets its contract: a frame at a place is the frame that the rest begins with. Assumes nothing.
+use Rattle.std.proofs.Common.{rules}
+use Rattle.lines.specs.Frame.{frame_widths, frame_numbers, read_frame}
+use Rattle.lines.proofs.RestLaws.{line_ends, line-here, found_here}
 use Rattle.lines.proofs.frame.read_frame.Goals as goal
 
-pub overflow_cast-result : goal.overflow_cast-result
-overflow_cast-result c = record { fits = hex_at-fits _ 4 _ _ _ (lit≤ tt) c.hex_at.ensures }
-
-pub overflow_cast-result-in-Good : goal.overflow_cast-result-in-Good
-overflow_cast-result-in-Good c = record { fits = hex_at-fits _ 8 _ _ _ (lit≤ tt) c.hex_at-in-Good.ensures }
+pub returns : goal.returns
+returns c =
+    let text = c.args.text.now in
+    let place = c.args.place in
+    found_here frame_numbers (λ bytes. (read_frame bytes 0).said) text place _
+    (λ past. line_ends text place past frame_widths)
+    (λ within. line-here text place within frame_widths)
+    _ _ _ c.at.ensures.next c.at.ensures.found (λ line made. (made.0.now, made.2, search rules))

@@ -1,62 +1,59 @@
-use Rattle.std.proofs.Common.{List, ◌≡◌, ◌≤◌, ◌<◌, ℕ, refl, arith}
-use Rattle.rules.specs.Limits.{row_limit}
-use Rattle.rules.specs.Rows.{rows_of}
-use Rattle.rules.specs.Stretches.{offset}
-use Rattle.soundness.specs.Setup.{setup_of}
-use Rattle.monitor.specs.declared.event.Arrival.{Arrival}
-use Rattle.monitor.specs.Event.{truths_after, entries_with, words_done, store_with}
-use Rattle.monitor.specs.Step.{event}
-use Rattle.monitor.specs.Core.{record_met, UnrefusedBySome}
-use Rattle.monitor.proofs.AcceptedLaws.{Accepted, accepted}
-use Rattle.monitor.proofs.TurnLaws.{row-ready, next_place_lem, row-turn}
+use Rattle.std.proofs.Common.{◌+◌, ◌≤◌, length, ◌∙◌, arith, rules}
+use Rattle.row_list.proofs.TruthsLaws.{byte_told}
+use Rattle.monitor.proofs.TurnLaws.{few-rows, judged-none, row-inside, row-ready, row-count, row-first, row-turn, judged-all}
 use Rattle.monitor.proofs.event.judge_rows.Goals as goal
 
--- What was checked before, of the record that was checked.
-met : (table store : List ℕ) (e : Arrival) (rows : ℕ) (truths counts firsts : List ℕ)
-    → UnrefusedBySome table store e rows truths counts firsts
-    → Accepted table store (record_met e rows truths counts firsts) e.time
-met table store e rows truths counts firsts some =
-    accepted (setup_of table some.0) store (record_met e rows truths counts firsts) (event e.time e.mask) some.1
-
-few : (table store : List ℕ) (e : Arrival) (rows : ℕ) (truths counts firsts : List ℕ)
-    → UnrefusedBySome table store e rows truths counts firsts
-    → rows ≡ rows_of table
-    → rows ≤ row_limit
-few table store e rows truths counts firsts some counted =
-    omega (arith, (met table store e rows truths counts firsts some).ready.passes.few-rows)
-
 pub loop-row-init : goal.loop-row-init
-unfolding offset truths_after entries_with words_done store_with
-loop-row-init c =
-    (omega arith, refl, record { truths_are = c.requires.counted.1; left = record { counts_are = refl; firsts_are = refl; store_is = refl } })
+loop-row-init c = record { few = few-rows c.requires.unrefused; done = judged-none c.requires.unrefused _ }
 
-pub bounds-counts-row : goal.bounds-counts-row
-bounds-counts-row c = omega (arith, few _ _ _ _ _ _ _ c.requires.unrefused_by_some c.requires.counted.0)
+-- The row's stretch lies within the store.
+pub overflow_add-end : goal.overflow_add-end
+overflow_add-end c =
+    let inside : c.loop-row.from + c.words.result ≤ length c.loop-row.store =
+    row-inside c.requires.unrefused _ c.loop-row.invariant.done (omega arith) c.numbers_at-numbers.ensures c.words.ensures in
+    search rules
 
-pub bounds-firsts-row : goal.bounds-firsts-row
-bounds-firsts-row c = omega (arith, few _ _ _ _ _ _ _ c.requires.unrefused_by_some c.requires.counted.0)
+pub offset_bounds-store-from : goal.offset_bounds-store-from
+offset_bounds-store-from c =
+    let inside : c.loop-row.from + c.words.result ≤ length c.loop-row.store =
+    row-inside c.requires.unrefused _ c.loop-row.invariant.done (omega arith) c.numbers_at-numbers.ensures c.words.ensures in
+    search rules
+
+pub slice_bounds-judge_row-end : goal.slice_bounds-judge_row-end
+slice_bounds-judge_row-end c =
+    let inside : c.loop-row.from + c.words.result ≤ length c.loop-row.store =
+    row-inside c.requires.unrefused _ c.loop-row.invariant.done (omega arith) c.numbers_at-numbers.ensures c.words.ensures in
+    omega arith
 
 pub judge_row-judged-requires : goal.judge_row-judged-requires
 judge_row-judged-requires c =
-    let lower : c.loop-row.row < rows_of c.args.table.now = omega (arith, c.requires.counted.0) in
-    row-ready _ _ _ _ _ (met _ _ _ _ _ _ _ c.requires.unrefused_by_some) lower c.loop-row.invariant.1 c.loop-row.invariant.2
-    c.numbers_at-numbers.ensures refl refl
+    row-ready c.requires.unrefused _ c.loop-row.invariant.done (omega arith) c.numbers_at-numbers.ensures c.words.ensures
 
-pub bounds-truths-row : goal.bounds-truths-row
-bounds-truths-row c = omega (arith, few _ _ _ _ _ _ _ c.requires.unrefused_by_some c.requires.counted.0)
+-- What is held of the row's spans is counted by numbers of the record.
+pub overflow_cast-kept : goal.overflow_cast-kept
+overflow_cast-kept c =
+    record {
+      fits =
+          row-count c.requires.unrefused _ c.loop-row.invariant.done (omega arith) c.numbers_at-numbers.ensures c.words.ensures
+          c.judge_row-judged.ensures.left;
+    }
 
-pub bounds-counts-row-in-loop-row : goal.bounds-counts-row-in-loop-row
-bounds-counts-row-in-loop-row c = omega (arith, few _ _ _ _ _ _ _ c.requires.unrefused_by_some c.requires.counted.0)
-
-pub bounds-firsts-row-in-loop-row : goal.bounds-firsts-row-in-loop-row
-bounds-firsts-row-in-loop-row c = omega (arith, few _ _ _ _ _ _ _ c.requires.unrefused_by_some c.requires.counted.0)
+pub overflow_cast-kept-in-loop-row : goal.overflow_cast-kept-in-loop-row
+overflow_cast-kept-in-loop-row c =
+    record {
+      fits =
+          row-first c.requires.unrefused _ c.loop-row.invariant.done (omega arith) c.numbers_at-numbers.ensures c.words.ensures
+          c.judge_row-judged.ensures.left;
+    }
 
 pub loop-row-preserved : goal.loop-row-preserved
 loop-row-preserved c =
-    let lower : c.loop-row.row < rows_of c.args.table.now = omega (arith, c.requires.counted.0) in (
-      omega arith,
-      next_place_lem _ _ _ _ _ (met _ _ _ _ _ _ _ c.requires.unrefused_by_some) lower c.loop-row.invariant.1 c.loop-row.invariant.2
-          c.numbers_at-numbers.ensures refl refl c.judge_row-judged.ensures c.byte_of.ensures,
-      row-turn _ _ _ _ _ (met _ _ _ _ _ _ _ c.requires.unrefused_by_some) lower c.loop-row.invariant.1 c.loop-row.invariant.2
-          c.numbers_at-numbers.ensures refl refl c.judge_row-judged.ensures c.byte_of.ensures,
-    )
+    record {
+      few = c.loop-row.invariant.few;
+      done =
+          row-turn c.requires.unrefused _ c.loop-row.invariant.done (omega arith) c.numbers_at-numbers.ensures c.words.ensures
+          c.judge_row-judged.ensures (c.from.ensures ∙ byte_told c.judge_row-judged.result.truth);
+    }
+
+pub returns : goal.returns
+returns c = judged-all c.requires.unrefused _ c.requires.no_beat c.loop-row.invariant.done (omega arith)

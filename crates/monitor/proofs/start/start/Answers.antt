@@ -1,33 +1,31 @@
 -- `monitor::start::start` meets its contract: what `ready` answered decides, and the words of the need become 0. Assumes nothing.
-use Rattle.std.proofs.Common.{◌≤◌, length, sym, ap, ◌∙◌, arith}
-use native.Mathlib.Nat.{sub-zero}
-use borrow.Rule.Slice.PartMut.{mid_len, Post-is}
-use Rattle.rules.specs.Table.{check_reply}
+use Rattle.std.proofs.Common.{◌≡◌, ◌≤◌, ℕ, length, take, length-take, arith, sym}
+use Rattle.std.proofs.lemmas.Result.{err_from_is_err_and}
 use Rattle.monitor.specs.Start.{start_of}
 use Rattle.soundness.proofs.ReadyLaws.{ready_room}
 use Rattle.monitor.proofs.start.start.Goals as goal
 
+pub returns-in_err-rows : goal.returns-in_err-rows
+unfolding start_of
+returns-in_err-rows c =
+    let told = err_from_is_err_and c.from_residual.result c.from_residual.ensures.1 in
+    rw (told.1, told.2, ← c.in_err-rows.ensures, c.nothing_seen.ensures)
+
 -- The need is within the store, so the words before its end become 0 and the others stay.
-pub slice_bounds-clear_words-end : goal.slice_bounds-clear_words-end
-slice_bounds-clear_words-end c =
-    omega (arith, ready_room _ _ _ _ (sym c.ready-checked.ensures ∙ ap check_reply c.in-Passed.is))
+pub slice_bounds-fill-end : goal.slice_bounds-fill-end
+slice_bounds-fill-end c =
+    let fits : c.in_ok-rows.field-0.need ≤ length c.args.store.now = ready_room _ _ _ _ (sym c.in_ok-rows.ensures) in
+    omega arith
 
-pub returns-in-Refused : goal.returns-in-Refused
-unfolding start_of
-returns-in-Refused c = rw (← c.ready-checked.ensures, c.in-Refused.is, c.nothing_seen.ensures)
+pub slice_bounds-fill-end-2 : goal.slice_bounds-fill-end-2
+slice_bounds-fill-end-2 c =
+    let fits : c.in_ok-rows.field-0.need ≤ length c.args.store.now = ready_room _ _ _ _ (sym c.in_ok-rows.ensures) in
+    omega (arith, length-take {A = ℕ})
 
-pub returns-in-Passed : goal.returns-in-Passed
+pub returns : goal.returns
 unfolding start_of
-returns-in-Passed c =
-    let store = c.args.store.now in
-    let need = c.in-Passed.need in
-    let fits : need ≤ length store = ready_room _ _ _ _ (sym c.ready-checked.ensures ∙ ap check_reply c.in-Passed.is) in
-    rw (
-      ← c.ready-checked.ensures,
-      c.in-Passed.is,
-      c.nothing_seen-in-Passed.ensures,
-      Post-is 0 need store (omega arith),
-      c.clear_words.ensures,
-      mid_len 0 need store fits,
-      sub-zero,
-    )
+returns c =
+    let fits : c.in_ok-rows.field-0.need ≤ length c.args.store.now = ready_room _ _ _ _ (sym c.in_ok-rows.ensures) in
+    let size : length (take c.in_ok-rows.field-0.need c.args.store.now) ≡ c.in_ok-rows.field-0.need =
+    omega (arith, length-take {A = ℕ}) in
+    rw (← c.in_ok-rows.ensures, c.nothing_seen-2.ensures, c.fill.ensures.after (λ y h. h), size)

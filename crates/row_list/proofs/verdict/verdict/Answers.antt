@@ -1,38 +1,38 @@
 use native.Mathlib.Omega.{arith}
-use mathlib.Core.Path.{◌≡◌, sym, ◌∙◌}
-use Prim.Native.Nat.{◌-◌}
-use lib.ListN.{get_or}
-use Rattle.row_list.specs.Truths.{truth_at}
-use Rattle.row_list.proofs.TruthsLaws.{byte_small}
-use Rattle.row_list.proofs.VerdictLaws.{bits_none, bits-whole, bits-more, bits-room}
+use Rattle.std.proofs.Math.Nat.{min_comm}
+use lib.ListN.{length}
+use Rattle.std.proofs.lemmas.List.{nil_from_length, take_min}
+use Rattle.row_list.specs.RowList.{list_limit}
+use Rattle.row_list.specs.Verdict.{verdict_number}
+use Rattle.row_list.proofs.TruthsLaws.{byte_told}
+use Rattle.row_list.proofs.VerdictLaws.{bits_onto, onto_none, onto_turn}
 use Rattle.row_list.proofs.verdict.verdict.Goals as goal
 
-pub loop-left-init : goal.loop-left-init
-loop-left-init c =
-    let a = c.args in
-    (omega arith, sym (rw c.within_limit-left.ensures (bits_none a.truths.now a.list.now)))
+pub loop-row-init : goal.loop-row-init
+unfolding verdict_number
+loop-row-init c =
+    rw (
+      c.into_iter-row-iterator.ensures.into_iter_gives,
+      c.rev-row-items.ensures.source,
+      c.iter.ensures.rest,
+      c.min.ensures,
+      min_comm (length c.args.list.now) list_limit,
+      take_min list_limit c.args.list.now,
+      onto_none,
+    )
 
 pub overflow_mul-number : goal.overflow_mul-number
-overflow_mul-number c =
-    let a = c.args in
-    omega (arith, bits-room a.truths.now a.list.now c.loop-left.left (omega arith), c.loop-left.invariant)
+overflow_mul-number c = omega (arith, (onto_turn _ _ _ _ _ _ c.in-Some.ensures.steps c.loop-row.invariant).1)
 
 pub overflow_add-number : goal.overflow_add-number
 overflow_add-number c =
-    let d = c in
-    let a = d.args in
-    let bit = byte_small (truth_at a.truths.now (get_or a.list.now (d.loop-left.left - 1) 0)) in
-    omega (arith, bits-room a.truths.now a.list.now d.loop-left.left (omega arith), d.loop-left.invariant, bit, c.truth_of.ensures)
+    rw (c.from.ensures, c.truth_at.ensures, byte_told)
+    (omega (arith, (onto_turn _ _ _ _ _ _ c.in-Some.ensures.steps c.loop-row.invariant).1))
 
-pub loop-left-preserved : goal.loop-left-preserved
-loop-left-preserved c =
-    let d = c in
-    let a = d.args in (
-      omega arith,
-      rw (c.truth_of.ensures, d.loop-left.invariant.1) (bits-more a.truths.now a.list.now d.loop-left.left (omega arith) (omega arith)),
-    )
+pub loop-row-preserved : goal.loop-row-preserved
+loop-row-preserved c =
+    rw (c.from.ensures, c.truth_at.ensures, byte_told) (onto_turn _ _ _ _ _ _ c.in-Some.ensures.steps c.loop-row.invariant).0
 
 pub returns : goal.returns
-returns c =
-    let none : c.loop-left.left ≡ 0 = omega arith in
-    c.loop-left.invariant.1 ∙ rw none (bits-whole _ _)
+unfolding bits_onto
+returns c = rw (nil_from_length _ c.in-None.ensures.steps.0) at c.loop-row.invariant

@@ -1,14 +1,9 @@
--- `row_list::verdict::verdict` meets its contract. The loop's invariant: the number has the bits of the numbers from the place on. The measure is the
--- place. Assumes nothing.
+-- `row_list::verdict::verdict` meets its contract. The loop's invariant: the bits of the rows that are left, put below those of the number, are the
+-- verdict. Assumes nothing.
 use mathlib.Core.Path.{◌≡◌}
-use Prim.Native.Nat.{◌≤◌, min}
-use lib.ListN.{length}
-use Rattle.row_list.specs.RowList.{list_limit}
-use Rattle.row_list.proofs.VerdictLaws.{bits_from}
+use Rattle.row_list.specs.Verdict.{verdict_number}
+use Rattle.row_list.proofs.VerdictLaws.{bits_onto}
 use Rattle.row_list.proofs.verdict.verdict.Given as goal
 
-abbrev pub invariant-loop-left : goal.invariant-loop-left
-invariant-loop-left l = (l.left ≤ min (length l.list) list_limit) × (l.number ≡ bits_from l.truths l.list l.left)
-
-abbrev pub decreases-loop-left : goal.decreases-loop-left
-decreases-loop-left l = l.left
+abbrev pub invariant-loop-row : goal.invariant-loop-row
+invariant-loop-row l = bits_onto l.truths l.row-iterator.iter.rest.now l.number ≡ verdict_number l.truths l.list

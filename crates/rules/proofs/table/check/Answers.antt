@@ -1,58 +1,27 @@
-use Prim.Native.Nat.{ℕ, ◌≤◌, ◌<◌}
-use mathlib.Core.Bool.{Bool, true}
-use mathlib.Core.List.{List}
-use mathlib.Core.Logic.{⊎_elim}
 use mathlib.Core.Path.{◌≡◌, refl, sym, ap, ◌∙◌}
-use native.Mathlib.Nat.{eq-or-lt_of_le}
+use mathlib.Core.Bool.{true}
 use lib.ListN.{length}
 use native.Mathlib.Omega.{arith}
+use borrow.Author.Count.{below_more}
 use Rattle.meaning.proofs.Tells.{tells_passed}
-use Rattle.kinds.specs.Kinds.{known}
-use Rattle.rules.specs.Limits.{row_numbers}
-use Rattle.rules.specs.Rows.{numbers_at}
 use Rattle.rules.specs.Stretches.{width, offset}
-use Rattle.rules.specs.Table.{length_passes, row_passes, limits_pass, first_fault}
-use Rattle.rules.specs.declared.numbers.Numbers.{Numbers}
-use Rattle.rules.proofs.TableLaws.{
-  field_fits,
-  field_told,
-  row-passes,
-  row_unknown,
-  row_unfit,
-  fault_row,
-  fault_limits,
-  fault_none,
-  whole_rows_told,
-  refused-at,
-  passed-at,
-  next-passes,
-  refused_length,
-}
-use Rattle.rules.proofs.PassedLaws.{range_told, rows-good, width-most, offset-most}
+use Rattle.rules.specs.Table.{length_passes, first_fault}
+use Rattle.rules.proofs.FieldsLaws.{fields_of, field_fits, fields_pass, field_fails, unknown_fails}
+use Rattle.rules.proofs.TableLaws.{whole_rows_told, fault_row, fault_limits, fault_none, refused-at, passed-at, next-passes, refused_length}
+use Rattle.rules.proofs.PassedLaws.{offset-most, rows-good, width-most, good-row}
 use Rattle.rules.proofs.table.check.Goals as goal
-
--- What the calls in a row tell of the table, from what each ensures.
-known_told : {result : Bool} {found row : Numbers} → result ≡ known found.kind → found ≡ row → result ≡ known row.kind
-known_told told found_is = told ∙ ap (λ (row : Numbers). known row.kind) found_is
-
-limits_told : {result : Bool} {found row : Numbers} → result ≡ limits_pass found.a found.b → found ≡ row → result ≡ limits_pass row.a row.b
-limits_told told found_is = told ∙ ap (λ (row : Numbers). limits_pass row.a row.b) found_is
-
--- A row whose fields were all looked at passes 2.
-all_fit :
-    (table : List ℕ) (r field : ℕ)
-    → known (numbers_at table r).kind ≡ true
-    → row_numbers ≤ field
-    → ((f : ℕ) → 1 ≤ f → f < field → field_fits table r f ≡ true)
-    → row_passes r (numbers_at table r) ≡ true
-all_fit table r field k done fit = row-passes table r k (λ f low high. fit f low (omega arith))
 
 pub returns-then-not-length_passes : goal.returns-then-not-length_passes
 returns-then-not-length_passes c = refused_length _ (sym c.length_passes.ensures ∙ c.if-not-length_passes.true)
 
-pub rows-init : goal.rows-init
+pub overflow_cast-rows : goal.overflow_cast-rows
+overflow_cast-rows c =
+    let whole = tells_passed (whole_rows_told _) (sym c.length_passes.ensures ∙ c.if-not-length_passes.false) in
+    omega arith
+
+pub loop-row-init : goal.loop-row-init
 unfolding offset first_fault
-rows-init c =
+loop-row-init c =
     let size : length_passes (length c.args.table.now) ≡ true = sym c.length_passes.ensures ∙ c.if-not-length_passes.false in
     record {
       size = size;
@@ -62,70 +31,48 @@ rows-init c =
       good = refl;
     }
 
-pub fields-init : goal.fields-init
-fields-init c = (omega arith, omega arith, λ f low high. absurd (omega arith))
+pub returns-in_default : goal.returns-in_default
+returns-in_default c =
+    refused-at _ _ _ c.loop-row.invariant _
+    c.loop-row-test.true
+    (rw c.numbers_at-numbers.ensures at (fault_row c.loop-row.row c.numbers_at-numbers.result (unknown_fails _ _ c.in_default.ensures.1)))
 
-pub fields-preserved : goal.fields-preserved
-fields-preserved c = (
-  omega arith,
-  omega arith,
-  λ f low high.
-      ⊎_elim
-      (λ e. rw e (sym
-      (c.may_be.ensures
-      ∙ field_told _ _ _ c.numbers_at-found.ensures c.line_of-line.ensures c.use_of.ensures c.number_at-number.ensures)
-      ∙ c.if-not-may_be.false))
-      (λ lower. c.fields.invariant.2 f low lower)
-      (eq-or-lt_of_le (omega arith)),
-)
+pub loop-usage-preserved : goal.loop-usage-preserved
+loop-usage-preserved c =
+    below_more _ _ c.loop-usage.invariant
+    (let fit : c.admits.result ≡ field_fits c.loop-row.row (fields_of c.line-line.result c.numbers_at-numbers.result) c.loop-usage.usage-index = c.admits.ensures in
+    cc)
 
-pub overflow_add-need : goal.overflow_add-need
-overflow_add-need c =
-    let before = c.rows.invariant in
-    let range = tells_passed (range_told _ _) (sym c.limits_pass.ensures ∙ c.if-not-limits_pass.false) in
-    omega (arith, offset-most _ _ (rows-good _ _ before.good), width-most c.numbers_at-found.result range)
-
-pub rows-preserved : goal.rows-preserved
-rows-preserved c =
-    next-passes _ _ _ c.rows.invariant _
-    c.if-rows-row.false
-    (fault_none _ _
-    (all_fit _ _ _
-    (sym (known_told c.is_known.ensures c.numbers_at-found.ensures) ∙ c.if-not-is_known.false)
-    c.fields-test.false
-    c.fields.invariant.2)
-    (sym (limits_told c.limits_pass.ensures c.numbers_at-found.ensures) ∙ c.if-not-limits_pass.false))
-    (c.words-need.ensures ∙ ap width c.numbers_at-found.ensures)
-
-pub returns-then-rows-row : goal.returns-then-rows-row
-returns-then-rows-row c = passed-at _ _ _ c.rows.invariant c.if-rows-row.true
-
-pub returns-then-not-is_known : goal.returns-then-not-is_known
-returns-then-not-is_known c =
-    refused-at _ _ _ c.rows.invariant _
-    c.if-rows-row.false
-    (fault_row _ _
-    (row_unknown _ _ (sym (known_told c.is_known.ensures c.numbers_at-found.ensures) ∙ c.if-not-is_known.true)))
-
-pub returns-then-not-may_be : goal.returns-then-not-may_be
-returns-then-not-may_be c =
-    refused-at _ _ _ c.rows.invariant _
-    c.if-rows-row.false
-    (fault_row _ _
-    (row_unfit _ _ _ c.fields.invariant.0
-    c.fields-test.true
-    (sym
-    (c.may_be.ensures
-    ∙ field_told _ _ _ c.numbers_at-found.ensures c.line_of-line.ensures c.use_of.ensures c.number_at-number.ensures)
-    ∙ c.if-not-may_be.true)))
+pub returns-then-not-admits : goal.returns-then-not-admits
+returns-then-not-admits c =
+    let fit : c.admits.result ≡ field_fits c.loop-row.row (fields_of c.line-line.result c.numbers_at-numbers.result) c.loop-usage.usage-index = c.admits.ensures in
+    refused-at _ _ _ c.loop-row.invariant _
+    c.loop-row-test.true
+    (rw c.numbers_at-numbers.ensures at (fault_row c.loop-row.row c.numbers_at-numbers.result
+    (field_fails _ _ _ _ c.in-Ok.ensures c.line-line.ensures c.loop-usage.usage-index (omega arith) (sym fit ∙ c.if-not-admits.true))))
 
 pub returns-then-not-limits_pass : goal.returns-then-not-limits_pass
 returns-then-not-limits_pass c =
-    refused-at _ _ _ c.rows.invariant _
-    c.if-rows-row.false
-    (fault_limits _ _
-    (all_fit _ _ _
-    (sym (known_told c.is_known.ensures c.numbers_at-found.ensures) ∙ c.if-not-is_known.false)
-    c.fields-test.false
-    c.fields.invariant.2)
-    (sym (limits_told c.limits_pass.ensures c.numbers_at-found.ensures) ∙ c.if-not-limits_pass.true))
+    let fit = fields_pass c.loop-row.row c.numbers_at-numbers.result _ _ c.in-Ok.ensures c.line-line.ensures (λ k few. c.loop-usage.invariant k (omega arith)) in
+    refused-at _ _ _ c.loop-row.invariant _
+    c.loop-row-test.true
+    (rw c.numbers_at-numbers.ensures at (fault_limits c.loop-row.row c.numbers_at-numbers.result fit (sym (rw c.limits.ensures at c.limits_pass.ensures) ∙ c.if-not-limits_pass.true)))
+
+pub overflow_add-need : goal.overflow_add-need
+overflow_add-need c =
+    let fit = fields_pass c.loop-row.row c.numbers_at-numbers.result _ _ c.in-Ok.ensures c.line-line.ensures (λ k few. c.loop-usage.invariant k (omega arith)) in
+    let good = fault_none c.loop-row.row c.numbers_at-numbers.result fit (sym (rw c.limits.ensures at c.limits_pass.ensures) ∙ c.if-not-limits_pass.false) in
+    let before = c.loop-row.invariant in
+    omega (arith, offset-most _ _ (rows-good _ _ before.good), width-most c.numbers_at-numbers.result (good-row _ _ good).limits)
+
+pub loop-row-preserved : goal.loop-row-preserved
+loop-row-preserved c =
+    let fit = fields_pass c.loop-row.row c.numbers_at-numbers.result _ _ c.in-Ok.ensures c.line-line.ensures (λ k few. c.loop-usage.invariant k (omega arith)) in
+    let good = fault_none c.loop-row.row c.numbers_at-numbers.result fit (sym (rw c.limits.ensures at c.limits_pass.ensures) ∙ c.if-not-limits_pass.false) in
+    next-passes _ _ _ c.loop-row.invariant _
+    c.loop-row-test.true
+    (rw c.numbers_at-numbers.ensures at good)
+    (c.words-need.ensures ∙ ap width c.numbers_at-numbers.ensures)
+
+pub returns-after-loop-row : goal.returns-after-loop-row
+returns-after-loop-row c = passed-at _ _ _ c.loop-row.invariant (omega arith)

@@ -1,31 +1,28 @@
--- A turn (`sound-next`): the whole answer is that of the span at its place and of those after; past the last place there is none (`sound_none`).
+-- A turn (`rising_turn`): the whole answer is that of the next span and of those after it; past the last there is none (`rising_none`).
 use mathlib.Core.Path.{refl, sym, ◌∙◌}
-use Prim.Native.Nat.{◌+◌}
 use native.Mathlib.Omega.{arith}
-use Rattle.sound_spans.proofs.SoundSteps.{sound-next, sound_none}
+use Rattle.sound_spans.proofs.SoundSteps.{rising_turn}
 use Rattle.sound_spans.proofs.stretch.rising.Goals as goal
 
-pub loop-i-init : goal.loop-i-init
-loop-i-init c = refl
-
-pub loop-i-preserved : goal.loop-i-preserved
-loop-i-preserved c =
-    let args = c.args in
-    c.loop-i.invariant
-    ∙ sound-next args.words.now c.loop-i.i args.end (c.loop-i.least + c.loop-i.more) args.time args.latest args.long c.loop-i-test.true c.requires.1
-    ∙ rw (← c.sound_span.ensures, c.if-sound_span.true) refl
-
-pub returns-else-sound_span : goal.returns-else-sound_span
-returns-else-sound_span c =
-    let args = c.args in
+pub returns-then-not-span_sound : goal.returns-then-not-span_sound
+returns-then-not-span_sound c =
+    let inv = c.loop-span.invariant in
+    let steps = c.in-Some.ensures.steps in
     sym
-    (c.loop-i.invariant
-    ∙ sound-next args.words.now c.loop-i.i args.end (c.loop-i.least + c.loop-i.more) args.time args.latest args.long c.loop-i-test.true c.requires.1
-    ∙ rw (← c.sound_span.ensures, c.if-sound_span.false) refl)
+    (inv.told
+    ∙ rising_turn _ _ _ _ c.in-Some.span.now _ steps.1.0 (steps.1.1 ∙ inv.pairs) c.requires
+    ∙ rw (← c.span_sound.ensures, c.if-not-span_sound.true) refl)
 
-pub returns : goal.returns
-returns c =
-    let args = c.args in
-    sym
-    (c.loop-i.invariant
-    ∙ sound_none args.words.now c.loop-i.i args.end _ args.time args.latest args.long (omega arith))
+pub loop-span-preserved : goal.loop-span-preserved
+loop-span-preserved c =
+    let inv = c.loop-span.invariant in
+    let steps = c.in-Some.ensures.steps in
+    record {
+      can_next = omega (arith, steps.0, inv.pairs);
+      is_finite = tt;
+      pairs = steps.0 ∙ inv.pairs;
+      told =
+          inv.told
+          ∙ rising_turn _ _ _ _ c.in-Some.span.now _ steps.1.0 (steps.1.1 ∙ inv.pairs) c.requires
+          ∙ rw (← c.span_sound.ensures, c.if-not-span_sound.false, c.after-least.ensures) refl;
+    }

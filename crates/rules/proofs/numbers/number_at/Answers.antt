@@ -1,7 +1,0 @@
--- `rules::numbers::number_at` meets its contract. Assumes nothing.
-use mathlib.Core.Path.{sym}
-use lib.ListN.{get_or-eq_default}
-use Rattle.rules.proofs.numbers.number_at.Goals as goal
-
-pub returns : goal.returns
-returns c = sym (get_or-eq_default c.args.table.now 0 c.if-at-table.false)
