@@ -80,7 +80,7 @@ fresh() {
     rm -rf "$work/repo" "$work/kit"
     bin=$work/kit/toolchain/bin
     mkdir -p "$work/repo/crates/board_c" "$work/repo/crates/muktrashi" "$work/repo/tools" "$work/kit/bin" "$bin"
-    cp tools/build tools/portable tools/board_lines.py "$work/repo/tools/"
+    cp tools/build tools/pairs tools/portable tools/board_lines.py "$work/repo/tools/"
     : >"$work/repo/crates.txt"
     : >"$work/kit/KIT-ID"
     : >"$work/kit/bin/rtlib.py"
@@ -159,6 +159,12 @@ cmp -s "$work/good.bc" "$work/repo/target/board/module.bc" || fail "target/board
 touch "$work/repo/crates/board_c/lib.rt"
 builds cortex-m3
 [ "$(wc -l <"$work/repo/proved")" -eq 5 ] || fail "a source has changed, and the library is not built again"
+for tool in build pairs portable; do
+    : >"$work/kit/compiled"
+    touch "$work/repo/tools/$tool"
+    builds cortex-m3
+    grep -q -- '--target=thumbv7m' "$work/kit/compiled" || fail "tools/$tool has changed, and the library is not built again"
+done
 
 # What cannot be built.
 fresh
@@ -231,25 +237,10 @@ not_portable 's/^; Function.*/%pair = type { i32, i32 }/' 'has data or a type of
 not_portable 's/alloca ptr, align 8/alloca { i64, i8 }, align 8/' 'has a struct or a vector'
 not_portable 's/alloca ptr, align 8/alloca <4 x i32>, align 16/' 'has a struct or a vector'
 not_portable 's/^define internal noundef zeroext i1/define internal { i64, i1 }/' 'has a struct or a vector'
+not_portable 's/load { i64, i64 }/load { ptr, i64 }/' 'has a struct or a vector'
 not_portable 's/load { i64, i64 }/load { ptr, i1 }/' 'has a struct or a vector'
 not_portable 's/alloca ptr, align 8/alloca { ptr, i64 }, align 8/' 'has a struct or a vector'
 not_portable 's/load { i64, i64 }, ptr %a0/load { i64, ptr }, ptr @pair/' 'has a struct or a vector'
-# A pair in memory lies there as on x86-64: it is read in two, each number at its place.
-read_in_two() {
-    sed "s/load { i64, i64 }/load { $1, $2 }/" "$work/good.bc" >"$work/module"
-    said=$(tools/portable "$work/module" 2>&1) || fail "tools/portable does not take a pair '$1, $2': $said"
-    for wanted in "%r1.first = load $1, ptr %a0, align 8" "%r1.place = getelementptr i8, ptr %a0, i64 $3" \
-        "%r1.second = load $2, ptr %r1.place, align $4" "%r1.half = insertvalue { $1, $2 } undef, $1 %r1.first, 0" \
-        "%r1 = insertvalue { $1, $2 } %r1.half, $2 %r1.second, 1"; do
-        [[ $said == *"  $wanted"$'\n'* ]] || fail "tools/portable reads a pair '$1, $2' without '$wanted'"
-    done
-    [[ $said != *"load {"* ]] || fail "tools/portable leaves a pair '$1, $2' read as a whole"
-}
-read_in_two ptr i64 8 8
-read_in_two i8 ptr 8 8
-read_in_two i8 i32 4 4
-read_in_two i32 i32 4 4
-read_in_two i8 i16 2 2
 not_portable 's/getelementptr inbounds nuw i8/getelementptr inbounds nuw ptr/' 'has a place that is not counted in bytes'
 not_portable 's/%r5 = icmp.*/%r5 = fcmp olt double 1.0, 2.0/' "has 'fcmp'"
 not_portable 's/alloca ptr, align 8/alloca i128, align 8/' "has 'i128'"
@@ -267,10 +258,152 @@ not_portable 's/^define noundef i32 @muk/define internal noundef i32 @muk/' 'the
 tools/portable "$work/good.bc" | diff "$work/good.bc" - >"$work/changes"
 [ "$(grep -c '^[<>]' "$work/changes")" -eq 2 ] && grep -q '^> attributes #0 = { nounwind "probe-stack"="inline-asm" }$' "$work/changes" ||
     fail "tools/portable changes more than the processor's name, or less: $(cat "$work/changes")"
+# with_pairs FIRST SECOND ALIGN: the module, and functions in it that hand on such pairs, from memory aligned so or to four bytes.
+with_pairs() {
+    cat "$work/good.bc" - <<END
+
+define internal noundef { $1, $2 } @"board::asm::answers"(ptr noundef %a0, i64 noundef %a1) #0 {
+start:
+  %r0 = load { $1, $2 }, ptr %a0, align $3
+  ret { $1, $2 } %r0
+}
+
+define internal { $1, $2 } @nothing() #0 {
+  %r0 = alloca [16 x i8], align 4
+  %r1 = load { $1, $2 }, ptr %r0, align 4
+  ret { $1, $2 } %r1
+}
+
+define internal void @"board::asm::takes"(ptr noundef %a0) #0 {
+start:
+  br label %turn.1
+
+turn.1:                                           ; preds = %turn.1, %start
+  %r0 = call { $1, $2 } @"board::asm::answers"(ptr %a0, i64 7)
+  %r1 = extractvalue { $1, $2 } %r0, 0
+  %r2 = extractvalue { $1, $2 } %r0, 1
+  %r3 = call noundef { $1, $2 } @nothing()
+  %r4 = extractvalue { $1, $2 } %r3, 1
+  %r5 = icmp eq $2 %r2, %r4
+  br i1 %r5, label %turn.1, label %end.2
+
+end.2:                                            ; preds = %turn.1
+  ret void
+}
+END
+}
+
+# lent FIRST SECOND PLACE SIZE: of the second member and of both, as on x86-64. They are handed on in memory that the caller lends, once for all turns.
+lent() {
+    local align=$(($3 < 4 ? $3 : 4))
+    with_pairs "$1" "$2" "$3" >"$work/module"
+    tools/pairs "$work/module" >"$work/paired" || fail "tools/pairs ended with status $?"
+    cat "$work/good.bc" - <<END | diff "$work/paired" - >"$work/changes" || fail "tools/pairs writes (<) of a pair '$1, $2': $(cat "$work/changes")"
+
+define internal void @"board::asm::answers"(ptr noundef %lent, ptr noundef %a0, i64 noundef %a1) #0 {
+start:
+  %lent.first.r0 = load $1, ptr %a0, align $3
+  %lent.from.r0 = getelementptr i8, ptr %a0, i64 $3
+  %lent.second.r0 = load $2, ptr %lent.from.r0, align $3
+  store $1 %lent.first.r0, ptr %lent, align $3
+  %lent.to.r0 = getelementptr i8, ptr %lent, i64 $3
+  store $2 %lent.second.r0, ptr %lent.to.r0, align $3
+  ret void
+}
+
+define internal void @nothing(ptr noundef %lent) #0 {
+  %r0 = alloca [16 x i8], align 4
+  %lent.first.r1 = load $1, ptr %r0, align 4
+  %lent.from.r1 = getelementptr i8, ptr %r0, i64 $3
+  %lent.second.r1 = load $2, ptr %lent.from.r1, align $align
+  store $1 %lent.first.r1, ptr %lent, align $3
+  %lent.to.r1 = getelementptr i8, ptr %lent, i64 $3
+  store $2 %lent.second.r1, ptr %lent.to.r1, align $3
+  ret void
+}
+
+define internal void @"board::asm::takes"(ptr noundef %a0) #0 {
+start:
+  %lent.pair.r0 = alloca [$4 x i8], align $3
+  %lent.pair.r3 = alloca [$4 x i8], align $3
+  br label %turn.1
+
+turn.1:                                           ; preds = %turn.1, %start
+  call void @"board::asm::answers"(ptr %lent.pair.r0, ptr %a0, i64 7)
+  %r1 = load $1, ptr %lent.pair.r0, align $3
+  %lent.at.r2 = getelementptr i8, ptr %lent.pair.r0, i64 $3
+  %r2 = load $2, ptr %lent.at.r2, align $3
+  call void @nothing(ptr %lent.pair.r3)
+  %lent.at.r4 = getelementptr i8, ptr %lent.pair.r3, i64 $3
+  %r4 = load $2, ptr %lent.at.r4, align $3
+  %r5 = icmp eq $2 %r2, %r4
+  br i1 %r5, label %turn.1, label %end.2
+
+end.2:                                            ; preds = %turn.1
+  ret void
+}
+END
+    said=$(tools/portable "$work/paired" 2>&1 >/dev/null) || fail "tools/portable says '$said' of a pair '$1, $2' that tools/pairs has written"
+    tools/portable "$work/module" >/dev/null 2>&1 && fail "tools/portable takes a pair '$1, $2'"
+}
+lent ptr i64 8 16
+lent i8 ptr 8 16
+lent i8 i32 4 8
+lent i32 i32 4 8
+lent i8 i16 2 4
+lent i64 i8 8 9
+tools/pairs "$work/good.bc" | cmp -s - "$work/good.bc" || fail "tools/pairs changes a module in which no other pair is handed on"
+with_pairs i8 ptr 8 >"$work/pairs"
+sed 's/%r0/%lent/g' "$work/pairs" >"$work/module"
+tools/pairs "$work/module" | grep -qxF '  %lent1.pair.lent = alloca [16 x i8], align 8' || fail "tools/pairs makes a name that may be there"
+
+# A pair in another form is left, and refused.
+left() {
+    sed "$1" "$work/pairs" >"$work/module"
+    cmp -s "$work/pairs" "$work/module" && fail "'$1' changes nothing"
+    tools/pairs "$work/module" >"$work/paired" || fail "tools/pairs ended with status $?"
+    said=$(tools/portable "$work/paired" 2>&1 >/dev/null) && fail "tools/portable takes what tools/pairs writes of a module changed by '$1'"
+    [[ $said == "portable: "*"has $2" ]] || fail "tools/portable says '$said' of what tools/pairs writes of a module changed by '$1', not '$2'"
+}
+struct='a struct or a vector: ' take='^  %r1 = extractvalue { i8, ptr } %r0, 0' answer='define internal { i8, ptr } @nothing()'
+for form in 'alloca { i8, ptr }, align 8' 'load { i8, ptr }, ptr %a0, align 8' 'insertvalue { i8, ptr } %r0, i8 0, 0' \
+    'select i1 true, { i8, ptr } %r0, { i8, ptr } %r0' 'extractvalue { i8, ptr } %a0, 0' 'extractvalue { ptr, i8 } %r0, 0' 'call i8 @other({ i8, ptr } %r0)' \
+    'tail call { i8, ptr } @nothing()' 'call { i8, ptr } @nothing() #0' 'call { i8, ptr } @nothing(), !noundef !2' 'call { ptr, i8 } @nothing()' \
+    'call { i8, ptr } @other()' 'call { i8, ptr } %a0()' 'call { i8, i1 } @nothing()' 'call { i8, ptr, i8 } @nothing()'; do
+    left "s/$take/  %r1 = $form/" "$struct%r1 = $form"
+done
+for form in '{ i8, i1 }' '{ i128, ptr }' '{ i8, ptr, i8 }' '{ i8 }' '<{ i8, ptr }>' '{ i8, { ptr, i64 } }'; do
+    left "s/{ i8, ptr }/$form/g" "${struct}define internal noundef $form @\"board::asm::answers\"(ptr noundef %a0, i64 noundef %a1) #0 {"
+done
+left "s/$take/  store { i8, ptr } %r0, ptr %a0, align 8/" "${struct}store { i8, ptr } %r0, ptr %a0, align 8"
+left 's/^turn.1:.*/&\n  %r9 = phi { i8, ptr } [ undef, %start ], [ %r0, %turn.1 ]/' "$struct%r9 = phi { i8, ptr } [ undef, %start ], [ %r0, %turn.1 ]"
+left 's/^  ret { i8, ptr } %r1/  ret { i8, ptr } %r9/' "$struct%r1 = load { i8, ptr }, ptr %r0, align 4"
+left 's/^  ret { i8, ptr } %r1/  store i8 0, ptr %r0, align 1\n&/' "$struct%r1 = load { i8, ptr }, ptr %r0, align 4"
+left 's/load { i8, ptr }, ptr %r0, align 4/&, !noundef !2/' "$struct%r1 = load { i8, ptr }, ptr %r0, align 4, !noundef !2"
+left 's/%r1 = load { i8/%1 = load { i8/; s/ret { i8, ptr } %r1/ret { i8, ptr } %1/' "$struct%1 = load { i8, ptr }, ptr %r0, align 4"
+left "s/$answer/define internal fastcc { i8, ptr } @nothing()/" "${struct}define internal fastcc { i8, ptr } @nothing() #0 {"
+left "s/$answer #0/& align 8/" "$struct$answer #0 align 8 {"
+left "s/$answer/define { i8, ptr } @muk_nothing()/" 'a function for others of another form: define { i8, ptr } @muk_nothing() #0 {'
+# Others may call a function whose address they are given, and they know nothing of the address more.
+left 's/^  %r5 = icmp eq ptr %r2, %r4/  store ptr @nothing, ptr %a0, align 8\n&/' "$struct$answer #0 {"
+left 's/^  %r5 = icmp eq ptr %r2, %r4/  store ptr @"board::asm::answers", ptr %a0, align 8\n&/' \
+    "${struct}define internal noundef { i8, ptr } @\"board::asm::answers\"(ptr noundef %a0, i64 noundef %a1) #0 {"
+# A function that is said to write nothing would not leave its answer.
+left "s/$answer #0/$answer #1/" "$struct$answer #1 {"
+left 's/^attributes #0 = { nounwind/& memory(none)/' \
+    "${struct}define internal noundef { i8, ptr } @\"board::asm::answers\"(ptr noundef %a0, i64 noundef %a1) #0 {"
+
+fresh
+cp "$work/pairs" "$work/kit/module.bc"
+builds cortex-m0
 fresh
 builds x86_64
 sed 's/alloca ptr/alloca i128/' "$work/good.bc" >"$work/repo/target/board/module.bc"
 refuses 1 "build: the module of board_c may mean another thing on another processor, so it is built for x86-64 and 64-bit ARM alone: line 9 has 'i128'" cortex-m0
+sed 's/^turn.1:.*/&\n  %r9 = phi { i8, ptr } [ undef, %start ], [ %r0, %turn.1 ]/' "$work/pairs" >"$work/repo/target/board/module.bc"
+refuses 1 "build: the module of board_c may mean another thing on another processor" cortex-m0
+printf '\377' >"$work/repo/target/board/module.bc"
+refuses 1 "build: tools/pairs cannot read the module of board_c; target/build.log has what it said" cortex-m0
 script "$bin/clang" "[ \"\$1\" != --print-targets ] || exec cat $work/kit/targets" 'exit 1'
 refuses 1 "build: the kit's clang cannot read the module of board_c" cortex-m3
 

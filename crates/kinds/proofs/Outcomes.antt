@@ -23,9 +23,13 @@ kind_back Since = (refl, refl)
 kind_back Once = (refl, refl)
 kind_back Always = (refl, refl)
 
+-- The number of a kind is known.
+pub number-known : (k : Kind) → known (number_of k) ≡ true
+number-known k = (kind_back k).1
+
 -- A number that a kind has is not unknown.
 named_known : (k : Kind) (number : ℕ) → number_of k ≡ number → ¬ (known number ≡ false)
-named_known k number e unknown = cc (kind_back k).1
+named_known k number e unknown = cc (number-known k)
 
 abbrev no_kind : ℕ → Result Kind UnknownKind
 no_kind number = Err (record { 0 = number })

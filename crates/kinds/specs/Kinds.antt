@@ -1,6 +1,6 @@
 -- The one table of kinds (document 01, "The rule table"; 7 and 8 by document 02, E1). A new kind is a line here and in src/table.rt, a case of `Kind` in
 -- src/kind.rt with its number, and a case of `Plain` where it is no stretch.
-use Rattle.std.specs.Prelude.{Bool, true, false, List, [], ◌∷◌, ◌≡◌, ℕ, eqb, ltb, length, get_or, Result, MatchResult}
+use Rattle.std.specs.Prelude.{Bool, true, false, List, [], ◌∷◌, ◌++◌, ◌≡◌, ℕ, eqb, ltb, length, get_or, codes, decimal, Result, MatchResult}
 use Rattle.meaning.specs.Heartbeat.{heartbeat_bit}
 use Rattle.kinds.specs.declared.table.Use.{Use}
 use Rattle.kinds.specs.declared.table.Use.TheVariants.{Unused, Bit, Lower, Limit}
@@ -96,6 +96,10 @@ number_of named.Always = 8
 
 abbrev pub Names : ℕ → Result Named.Kind UnknownKind → Type 0
 Names number answer = MatchResult answer (λ kind. number_of kind ≡ number) (λ unknown. (unknown.0 ≡ number) × (known number ≡ false))
+
+-- What is printed of a number that names no kind.
+abbrev pub unknown_text : UnknownKind → List ℕ
+unknown_text unknown = codes "no kind of row has number " ++ decimal unknown.0
 
 -- What a row says, and the line of a kind, as the code has them.
 abbrev pub rule_line : Rule → Says.Rule

@@ -1,6 +1,7 @@
 // The kinds of rows (document 01; 7 and 8 by document 02, E1), and the numbers by which a table names them.
 
-ghost use Rattle.kinds.specs.Kinds.{Names};
+ghost use Rattle.std.specs.Prelude.{Some};
+ghost use Rattle.kinds.specs.Kinds.{Names, unknown_text};
 
 use std::error::Error;
 use std::fmt;
@@ -44,6 +45,8 @@ impl TryFrom<u32> for Kind {
 }
 
 impl fmt::Display for UnknownKind {
+    ghost output = { λ u. Some (unknown_text u) };
+
     fn fmt<W: fmt::Write>(&self, f: &mut fmt::Formatter<W>) -> fmt::Result {
         let number = self.0;
         write!(f, "no kind of row has number {number}")

@@ -16,6 +16,7 @@ pub struct Read<T> {
 
 impl<T> Read<T> {
     // What a format makes of the text from a place on. The next place is past the line feed, whatever that is.
+    #[tactic(auto, unfolding(crate::specs::Line::past_line_feed))]
     pub(crate) fn at<F: FnOnce(&[u8]) -> Result<T, Refusal> + Drop>(
         text: &[u8],
         place: usize,

@@ -8,7 +8,7 @@ use native.Mathlib.Omega.{arith}
 use lib.Dec.{leb}
 use lib.ListN.{length}
 use borrow.Author.Tests.{le-leb, lt-leb, leb-false}
-use Rattle.std.specs.Prelude.{Ok, Err}
+use Rattle.std.specs.Prelude.{Result, Ok, Err}
 use Rattle.meaning.specs.FrameTime.{frame_time}
 use Rattle.meaning.specs.Heartbeat.{heartbeat?}
 use Rattle.refusals.specs.Refusals.{Refused, refused, ◌or_else◌}
@@ -36,8 +36,11 @@ use Rattle.monitor.specs.Step.{
   verdict_of,
   verdict,
   clock_moved,
+  Outcome,
   outcome_by,
   step_of,
+  said,
+  said_step,
   StepGives,
 }
 use Rattle.monitor.specs.Event.{Moment, record_after}
@@ -147,6 +150,31 @@ module _
         → StepGives setup store found (event time mask) (Ok (Accepted.Verdict (verdict_number kept.truths setup.list))) kept after
     unfolding step_of
     gives-verdict no-beat = rw (left.left_is, left.store_is, accepted, no-beat)
+
+-- No call changes the row count, so the record that has these parts is the outcome's.
+rows_stay : (setup : Setup) (store : List ℕ) (found : Record) (call : Call) → found.rows ≡ (step_of setup store found call).left.rows
+unfolding step_of record_after
+rows_stay setup store found call = go (refusal_of setup store found call)
+  where
+    go : (o : Option Refused) → found.rows ≡ (outcome_by setup store found (moment_of setup store found call) o).left.rows
+    go none = refl
+    go (some fault) = refl
+
+put_together : (o : Outcome) (answer : Result Accepted Refusal) (left : Record) (rows : ℕ) (after : List ℕ)
+    → said answer ≡ o.reply
+    → record left { rows = o.left.rows } ≡ o.left
+    → after ≡ o.store
+    → rows ≡ o.left.rows
+    → said_step answer (record left { rows = rows }) after ≡ o
+put_together o answer left rows after replied parts store_is rows_are = rw (replied, rows_are, parts, store_is)
+
+pub step_given : (setup : Setup) (store : List ℕ) (found : Record) (call : Call) (answer : Result Accepted Refusal) (left : Record) (after : List ℕ)
+    → said answer ≡ (step_of setup store found call).reply
+    → record left { rows = (step_of setup store found call).left.rows } ≡ (step_of setup store found call).left
+    → after ≡ (step_of setup store found call).store
+    → StepGives setup store found call answer (record left { rows = found.rows }) after
+step_given setup store found call answer left after replied parts store_is =
+    put_together (step_of setup store found call) answer left found.rows after replied parts store_is (rows_stay setup store found call)
 
 -- The verdict of a call fits sixteen bits.
 accepted_fits : (number made : ℕ) (beat : Bool) → made < 2 ^ list_limit → cond beat clock_moved (verdict made) ≡ verdict number → number < 2 ^ list_limit

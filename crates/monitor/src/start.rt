@@ -14,9 +14,16 @@ use soundness::setup::Setup;
 pub fn start(setup: Setup, store: &mut [u64], given: &mut Record) -> Result<u64, Refusal>
     ensures { StartGives (setup_in setup.entry) store.old result given.new store.new }
 {
-    *given = nothing_seen(0);
-    let Passed { rows, need } = ready(setup, store.len())?;
-    store[..need as usize].fill(0);
-    *given = nothing_seen(rows);
-    Ok(need)
+    // The record is put down once in either case: it is most of what a start over few rows writes.
+    match ready(setup, store.len()) {
+        Ok(Passed { rows, need }) => {
+            store[..need as usize].fill(0);
+            *given = nothing_seen(rows);
+            Ok(need)
+        }
+        Err(fault) => {
+            *given = nothing_seen(0);
+            Err(fault)
+        }
+    }
 }

@@ -7,10 +7,10 @@ use native.Mathlib.Omega.{arith}
 use lib.ListN.{get_or}
 use Rattle.kinds.specs.Kinds.{known, kind_at, number_of, kind_line, fits}
 use Rattle.kinds.specs.declared.kind.Kind as Named
-use Rattle.kinds.specs.declared.kind.Kind.TheVariants as named
 use Rattle.kinds.specs.declared.table.KindLine.{KindLine}
 use Rattle.kinds.specs.declared.table.Use.{Use}
 use Rattle.kinds.specs.declared.table.Use.TheVariants.{Unused}
+use Rattle.kinds.proofs.Outcomes.{number-known}
 use Rattle.rules.specs.Table.{row_passes}
 use Rattle.rules.specs.declared.numbers.Numbers.{Numbers}
 
@@ -20,18 +20,6 @@ fields_of line row = (line.x, row.x) ∷ (line.y, row.y) ∷ (line.a, row.a) ∷
 
 abbrev pub field_fits : (r : ℕ) (fields : List (Use × ℕ)) (k : ℕ) → Bool
 field_fits r fields k = fits r (get_or fields k (Unused, 0)).0 (get_or fields k (Unused, 0)).1
-
--- The number of a kind is known.
-number-known : (kind : Named.Kind) → known (number_of kind) ≡ true
-number-known named.Truth = refl
-number-known named.Bit = refl
-number-known named.Negation = refl
-number-known named.Both = refl
-number-known named.Either = refl
-number-known named.Previous = refl
-number-known named.Since = refl
-number-known named.Once = refl
-number-known named.Always = refl
 
 -- One of four tests fails.
 one-fails : (p q r s : Bool) (k : ℕ) → k < 4 → get_or (p ∷ q ∷ r ∷ s ∷ []) k true ≡ false → (p && q && r && s) ≡ false

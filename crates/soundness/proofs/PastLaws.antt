@@ -3,6 +3,7 @@ use mathlib.Core.Bool.{Bool, ◌&&◌, and_assoc}
 use mathlib.Core.List.{List, [], ◌∷◌}
 use mathlib.Core.Path.{◌≡◌, refl, sym, ap}
 use Prim.Native.Nat.{ℕ, zero, suc, ◌+◌, ◌≤◌}
+use native.Mathlib.Numerals.{add-one}
 use native.Mathlib.Omega.{arith}
 use lib.Bits.{bit_or}
 use lib.Dec.{eqb}
@@ -62,3 +63,20 @@ module _ (rows : ℕ) (truths counts firsts : List ℕ) where
       (eqb (bits_past rows truths count) 0) (eqb (get_or truths (rows + count) 0) 0)
       (eqb (bits_past rows counts count) 0) (eqb (get_or counts (rows + count) 0) 0)
       (eqb (bits_past rows firsts count) 0) (eqb (get_or firsts (rows + count) 0) 0))
+
+  -- One entry more of each is put to numbers that tell of those before.
+  pub past_more : {row : ℕ} (truth number : ℕ) → rows ≤ row → (eqb truth 0 && eqb number 0) ≡ every row (zero_past? rows truths counts firsts)
+      → (eqb (bit_or truth (get_or truths row 0)) 0 && eqb (bit_or (bit_or number (get_or counts row 0)) (get_or firsts row 0)) 0)
+      ≡ every (row + 1) (zero_past? rows truths counts firsts)
+  unfolding every zero_past?
+  past_more {row} truth number past is =
+      rw (
+        or_zero_lem truth (get_or truths row 0),
+        or_zero_lem (bit_or number (get_or counts row 0)) (get_or firsts row 0),
+        or_zero_lem number (get_or counts row 0),
+        add-one,
+        le-ltb _ _ past,
+        ← is,
+        and_assoc (eqb number 0) (eqb (get_or counts row 0) 0) (eqb (get_or firsts row 0) 0),
+      )
+      (and_pairs (eqb truth 0) (eqb (get_or truths row 0) 0) (eqb number 0) (eqb (get_or counts row 0) 0 && eqb (get_or firsts row 0) 0))

@@ -52,6 +52,13 @@ ended_le time ((first to last) ∷ S) = go (ended time last) refl (ended_le time
     go true e h = rw e (omega arith)
     go false e h = rw e (omega arith)
 
+-- The count of ended spans from a place on: one more where the last there is before the time.
+pub ended-more : (words : List ℕ) (place count time : ℕ) → place < count → time ≤ mark → get_or words (2 * place + 1) 0 < time
+    → ended_count time (spans_from words place (count - place)) ≡ suc (ended_count time (spans_from words (place + 1) (count - (place + 1))))
+unfolding ended_count
+ended-more words place count time h m l =
+    rw (spans-next words place count h, ended_word time (get_or words (2 * place + 1) 0) m, lt-ltb _ _ l) refl
+
 -- The count of ended spans held, from the i-th on: one more where the last at its place is before the time, none where it is not, none past the spans.
 module _ (ring : Ring) (time : ℕ) (early : time ≤ mark) where
   abbrev pub ended-from : ℕ → ℕ

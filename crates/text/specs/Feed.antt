@@ -94,6 +94,14 @@ text_end state = end_text state.stage.part state.stage.rows (held_line state.hel
 abbrev pub step_fed : State → (table store piece out : List ℕ) → Feeding
 step_fed state table store piece out = piece_fed (memory_of state table store) (length out) piece
 
+-- The end of the line that is held, as the code has it: the state and what is lent are left, and the text is written from the output's start.
+pub record LineEnded
+    (state : State) (table store out : List ℕ)
+    (state' : State) (table' store' : List ℕ) (wrote : ℕ) (after : List ℕ) : Type 0 where
+  pub left : memory_of state' table' store'
+      ≡ record { held = emptied state.held; desk = (line_turn (held_line state.held) (memory_of state table store).desk).left }
+  pub written : Wrote out (line_turn (held_line state.held) (memory_of state table store).desk).text wrote after
+
 -- A byte as the code has it: the state and what is lent are left, and the text is written from the output's start.
 pub record ByteTaken
     (byte : ℕ) (state : State) (table store out : List ℕ)

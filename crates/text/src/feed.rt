@@ -5,7 +5,7 @@ ghost use Rattle.std.specs.Prelude.{◌&&◌, ◌≡◌, ◌*◌, ◌≤◌, leb
 ghost use Rattle.rules.specs.Limits.{row_limit, row_numbers};
 ghost use Rattle.text.specs.Replies.{longest_reply};
 ghost use Rattle.text.specs.Turn.{Room};
-ghost use Rattle.text.specs.Feed.{ByteTaken, Stepped, text_end, Ended};
+ghost use Rattle.text.specs.Feed.{ByteTaken, LineEnded, Stepped, text_end, Ended};
 
 use crate::replies::LONGEST_REPLY;
 use crate::state::State;
@@ -79,6 +79,16 @@ fn take(state: &mut State, byte: u8, table: &mut [u32], store: &mut [u64], out: 
     if byte != b'\n' {
         return 0;
     }
+    end_line(state, table, store, out)
+}
+
+// The line that is held has ended. Apart from `take`, so that a byte that ends no line sets nothing aside for what a line tells.
+fn end_line(state: &mut State, table: &mut [u32], store: &mut [u64], out: &mut [u8]) -> usize
+    requires room { Room state.old.stage table.old }
+    requires output { longest_reply ≤ length out.old }
+    ensures { LineEnded state.old table.old store.old out.old
+        state.new table.new store.new result out.new }
+{
     let reply = state.stage.turn(table, store, state.held.line());
     state.held.clear();
     match reply {

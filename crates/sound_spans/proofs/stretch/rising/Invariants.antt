@@ -1,5 +1,5 @@
 -- `sound_spans::stretch::rising` meets its contract. The loop: the answer of the words that are left is the whole answer, where the next span may begin from
--- `least`; one turn is `rising-next`. Assumes nothing.
+-- `least`; one turn is `rising_turn`. Assumes nothing.
 use mathlib.Core.Path.{◌≡◌}
 use Rattle.std.specs.Slice.Iter.{chunks_exact_rest, chunks_exact_size}
 use Rattle.spans.specs.Layout.{span_words}

@@ -1,6 +1,5 @@
 -- `lines::read::Read::at` meets its contract: the next place is past the first line feed, at the end too. Assumes nothing.
 use Rattle.std.proofs.Common.{◌≡◌, ◌-◌, length, sym, arith, length-drop}
-use Rattle.lines.specs.Line.{past_line_feed}
 use Rattle.lines.proofs.LineLaws.{past_end, past-most}
 use Rattle.lines.proofs.read.Read.at.Goals as goal
 
@@ -12,7 +11,3 @@ overflow_add-result g c =
     let rest = c.rest_at-rest.result.now in
     let size : length rest ≡ length c.args.text.now - c.args.place = rw c.rest_at-rest.ensures (length-drop c.args.place c.args.text.now) in
     omega (arith, past-most rest)
-
-pub returns-clause-next : goal.returns-clause-next
-unfolding past_line_feed
-returns-clause-next g c = rw (← c.rest_at-rest.ensures, ← c.line_length.ensures)
